@@ -1,0 +1,167 @@
+-- Demand 3 holds: specs/Demand3.antt has both statements and every word in them. Assumes nothing.
+use Prim.Native.Nat.{ℕ, zero, suc, _+_, _*_, _≤_, _<_}
+use mathlib.Core.Path.{_≡_, refl, sym, ap, subst, _∙_}
+use mathlib.Core.Bool.{Bool, cond, not}
+use mathlib.Core.Option.{Option, none, some}
+use mathlib.Core.List.{List, [], _∷_, _++_}
+use mathlib.Core.Logic.{_≢_, _⊎_, inl, inr, ⊎-elim, _↔_}
+use native.Mathlib.Decide.{ℕ-discrete}
+use native.Mathlib.Omega.{arith}
+use lib.Dec.{eqb}
+use borrow.Author.Tests.{eq-eqb, ne-eqb}
+use Rattle.protocol.specs.Sets.{_∈_, set}
+use Rattle.protocol.specs.Events.{Event, State, threads, prec}
+use Rattle.protocol.specs.Schedule.{wq, running, detached}
+use Rattle.protocol.specs.Rules.{valid}
+use Rattle.protocol.specs.Demand3.{
+  Moment,
+  now,
+  before,
+  holds-or-waits,
+  Premises,
+  First-sentence,
+  caller,
+  tally,
+  calls,
+  calls-of-others,
+  others,
+  Number,
+  Until,
+  at-once,
+  so-far,
+  over,
+  Second-sentence,
+}
+use Rattle.protocol.proofs.Kept.{Kept, valid-kept, valid-before, last-step, caller-runs}
+use Rattle.protocol.proofs.Finite.{size, live-below, dec-both, dec-not, dec-attached, attached-in}
+use Rattle.protocol.proofs.Spared.{Stands, runs-at, idle-not-running, idle-stays, still-stands}
+use Rattle.protocol.proofs.Numbers.{sum, sum-grows, sum-less, sum-bound, number-below}
+
+-- the premises for all but the newest event
+earlier : {s : State} {th : ℕ} {e : Event} {s′ : List Event} → Premises s th (e ∷ s′) → Premises s th s′
+earlier p = record { by-rules = valid-before (p .by-rules); live = p .live; highest = p .highest; spared = λ e i. p .spared e (inr i) }
+
+valid-from : (s : State) (s′ : List Event) → valid (s′ ++ s) → valid s
+valid-from s [] v = v
+valid-from s (e ∷ s′) v = valid-from s s′ (valid-before v)
+
+-- the first moment is one of the moments
+first : (s : State) (s′ : List Event) → Moment s s′ s
+first s [] = now
+first s (e ∷ s′) = before (first s s′)
+
+-- th stands highest at every moment
+stands : (s : State) (th : ℕ) (s′ : List Event) → Premises s th s′ → Stands th (prec th s) (s′ ++ s)
+stands s th [] p = record { live = p .live; own = refl; highest = p .highest }
+stands s th (e ∷ s′) p = still-stands (s′ ++ s) (valid-kept (s′ ++ s) (valid-before (p .by-rules))) th (prec th s) (stands s th s′ (earlier p)) e (last-step (p .by-rules)) (p .spared e (inl refl))
+
+-- who once neither held nor waited does so now
+idle-since : (s : State) (th : ℕ) {s′ : List Event} {m : State} → Premises s th s′ → Moment s s′ m → (u : ℕ) → u ≢ th → ¬ holds-or-waits m u → ¬ holds-or-waits (s′ ++ s) u
+idle-since s th p now u ne idle = idle
+idle-since s th p (before {e = e} {s′ = s′} mo) u ne idle = idle-stays (s′ ++ s) (valid-kept (s′ ++ s) (valid-before (p .by-rules))) th (prec th s) (stands s th s′ (earlier p)) u ne (idle-since s th (earlier p) mo u ne idle) e (last-step (p .by-rules))
+
+-- Demand 3, first sentence
+pub first-sentence : First-sentence
+first-sentence s th s′ p th′ run ne = (kept-s .entries (in-queue .0) th′ (in-queue .1), ever, runs-at (s′ ++ s) (valid-kept (s′ ++ s) (p .by-rules)) th (prec th s) (stands s th s′ p) th′ run)
+  where
+    kept-s : Kept s
+    kept-s = valid-kept s (valid-from s s′ (p .by-rules))
+
+    ever : (m : State) → Moment s s′ m → holds-or-waits m th′
+    ever m mo = go (dec-attached m th′)
+      where
+        go : Dec (holds-or-waits m th′) → holds-or-waits m th′
+        go (yes a) = a
+        go (no n) = absurd (idle-not-running (s′ ++ s) (valid-kept (s′ ++ s) (p .by-rules)) th (prec th s) (stands s th s′ p) th′ ne (idle-since s th p mo th′ ne n) run)
+
+    in-queue : (r : ℕ) × (th′ ∈ set (wq s r))
+    in-queue = attached-in s th′ (ever s (first s s′))
+
+-- at every moment u held or waited, or there was one when it did neither
+ever-or-not : (s : State) (s′ : List Event) (u : ℕ) → ((m : State) → Moment s s′ m → holds-or-waits m u) ⊎ ((m : State) × Moment s s′ m × (¬ holds-or-waits m u))
+ever-or-not s [] u = go (dec-attached s u)
+  where
+    all : holds-or-waits s u → (m : State) → Moment s [] m → holds-or-waits m u
+    all a m now = a
+
+    go : Dec (holds-or-waits s u) → ((m : State) → Moment s [] m → holds-or-waits m u) ⊎ ((m : State) × Moment s [] m × (¬ holds-or-waits m u))
+    go (yes a) = inl (all a)
+    go (no n) = inr (s, now, n)
+ever-or-not s (e ∷ s′) u = go (dec-attached (e ∷ s′ ++ s) u) (ever-or-not s s′ u)
+  where
+    all : holds-or-waits (e ∷ s′ ++ s) u → ((m : State) → Moment s s′ m → holds-or-waits m u) → (m : State) → Moment s (e ∷ s′) m → holds-or-waits m u
+    all a f m now = a
+    all a f m (before mo) = f m mo
+
+    go : Dec (holds-or-waits (e ∷ s′ ++ s) u) → ((m : State) → Moment s s′ m → holds-or-waits m u) ⊎ ((m : State) × Moment s s′ m × (¬ holds-or-waits m u)) →
+        ((m : State) → Moment s (e ∷ s′) m → holds-or-waits m u) ⊎ ((m : State) × Moment s (e ∷ s′) m × (¬ holds-or-waits m u))
+    go d (inr w) = inr (w .0, before (w .1), w .2)
+    go (no n) (inl f) = inr (e ∷ s′ ++ s, now, n)
+    go (yes a) (inl f) = inl (all a f)
+
+-- the events until u first neither holds nor waits: there is one such list
+pub until-some : (s : State) (s′ : List Event) (u : ℕ) → (es : List Event) × Until u s s′ es
+until-some s [] u = ([], at-once)
+until-some s (e ∷ s′) u = ⊎-elim (λ f. (e ∷ s′, so-far f)) (λ w. let r = until-some s s′ u in (r .0, over (w .1) (w .2) (r .1))) (ever-or-not s s′ u)
+
+pub until-one : {s : State} {s′ es fs : List Event} {u : ℕ} → Until u s s′ es → Until u s s′ fs → es ≡ fs
+until-one at-once at-once = refl
+until-one (so-far f) (so-far g) = refl
+until-one (so-far f) (over mo n k) = absurd (n (f _ mo))
+until-one (over mo n k) (so-far f) = absurd (n (f _ mo))
+until-one (over mo n k) (over mo′ n′ k′) = until-one k k′
+
+-- the others are a number
+pub others-number : (s : State) (th : ℕ) → valid s → (n : ℕ) × Number (others s th) n
+others-number s th v = let c = number-below (others s th) (λ u. dec-both (dec-not (ℕ-discrete u th)) (dec-attached s u)) (size s) in
+    (c .0, record { each = c .1 .each; once = c .1 .once; exactly = λ u. ((λ i. c .1 .exactly u .0 i .1), λ o. c .1 .exactly u .1 (low u (o .1), o)); size = c .1 .size })
+  where
+    low : (u : ℕ) → holds-or-waits s u → u < size s
+    low u a = let w = attached-in s u a in live-below s u (valid-kept s v .entries (w .0) u (w .1))
+
+module _ (s : State) (th : ℕ) where
+  -- whoever else calls is one of the others, and has held or waited ever since
+  other-calls : (e : Event) (s′ : List Event) → Premises s th (e ∷ s′) → (u : ℕ) → u ≢ th → caller e ≡ some u → (u ∈ others s th) × ((m : State) → Moment s s′ m → holds-or-waits m u)
+  other-calls e s′ p u ne by = let w = first-sentence s th s′ (earlier p) u (caller-runs (s′ ++ s) e u by (last-step (p .by-rules))) ne in ((ne, w .1 s (first s s′)), w .1)
+
+  -- all calls of another thread come before it first neither holds nor waits
+  all-until : (s′ : List Event) → Premises s th s′ → (u : ℕ) → u ≢ th → (es : List Event) → Until u s s′ es → calls u es ≡ calls u s′
+  all-until s′ p u ne es at-once = refl
+  all-until s′ p u ne es (so-far f) = refl
+  all-until s′ p u ne es (over {e = e} {s′ = s″} mo n k) = all-until s″ (earlier p) u ne es k ∙ go (caller e) refl
+    where
+      go : (o : Option ℕ) → caller e ≡ o → calls u s″ ≡ tally (λ x. eqb x u) o + calls u s″
+      go none q = omega arith
+      go (some x) q = at (ℕ-discrete x u)
+        where
+          at : Dec (x ≡ u) → calls u s″ ≡ cond (eqb x u) 1 0 + calls u s″
+          at (yes d) = absurd (n (other-calls e s″ p u ne (rw d at q) .1 _ mo))
+          at (no d) = rw (ne-eqb x u d) (omega arith)
+
+  -- each call of another thread counts for one of a list that has them all
+  others-sum : (l : List ℕ) → ((u : ℕ) → u ∈ others s th → u ∈ set l) → (s′ : List Event) → Premises s th s′ → calls-of-others th s′ ≤ sum l (λ u. calls u s′)
+  others-sum l has [] p = omega arith
+  others-sum l has (e ∷ s′) p = go (caller e) refl (others-sum l has s′ (earlier p))
+    where
+      go : (o : Option ℕ) → caller e ≡ o → calls-of-others th s′ ≤ sum l (λ u. calls u s′) → tally (λ u. not (eqb u th)) o + calls-of-others th s′ ≤ sum l (λ u. tally (λ x. eqb x u) o + calls u s′)
+      go none q h = omega (arith, sum-grows l (λ u. calls u s′) (λ u. 0 + calls u s′) (λ u. omega arith))
+      go (some x) q h = at (ℕ-discrete x th)
+        where
+          grows : (u : ℕ) → calls u s′ ≤ cond (eqb x u) 1 0 + calls u s′
+          grows u = omega arith
+
+          at : Dec (x ≡ th) → cond (not (eqb x th)) 1 0 + calls-of-others th s′ ≤ sum l (λ u. cond (eqb x u) 1 0 + calls u s′)
+          at (yes d) = rw (eq-eqb x th d) (omega (arith, sum-grows l (λ u. calls u s′) (λ u. cond (eqb x u) 1 0 + calls u s′) grows))
+          at (no d) = rw (ne-eqb x th d) (omega (arith, sum-less l (λ u. calls u s′) (λ u. cond (eqb x u) 1 0 + calls u s′) grows x (has x (other-calls e s′ p x d q .0)) (rw (eq-eqb x x refl) (omega arith))))
+
+-- Demand 3, second sentence
+pub second-sentence : Second-sentence
+second-sentence s th s′ p n K count few = omega (arith, others-sum s th (count .each) (λ u o. count .exactly u .1 o) s′ p, sum-bound (count .each) (λ u. calls u s′) K each, ap (λ (k : ℕ). k * K) (count .size))
+  where
+    each : (u : ℕ) → u ∈ set (count .each) → calls u s′ ≤ K
+    each u i = let o = count .exactly u .0 i in let w = until-some s s′ u in
+        omega (arith, few u o (w .0) (w .1), all-until s th s′ p u (o .0) (w .0) (w .1))
+
+-- Lemma 2, in the paper's words: a detached thread other than th does not run
+pub lemma-2 : (s : State) (th : ℕ) (s′ : List Event) → Premises s th s′ → (th′ : ℕ) → th′ ≢ th → detached (s′ ++ s) th′ → ¬ (th′ ∈ running (s′ ++ s))
+lemma-2 s th s′ p th′ ne out = idle-not-running (s′ ++ s) (valid-kept (s′ ++ s) (p .by-rules)) th (prec th s) (stands s th s′ p) th′ ne (⊎-elim (out .0) (out .1))

@@ -1,0 +1,54 @@
+-- Sets as the paper uses them: a set says of each thing whether it is in it. Assumes nothing.
+use mathlib.Core.Path.{_≡_}
+use mathlib.Core.Logic.{_⊎_}
+use mathlib.Core.List.{List, [], _∷_}
+
+infix 4 _∈_
+infixr 6 _∪_
+infixl 6 _∖_
+abbrev pub SetOf : Type 0 → Type 1
+SetOf A = A → Type 0
+
+abbrev pub _∈_ : {A : Type 0} → A → SetOf A → Type 0
+a ∈ M = M a
+
+abbrev pub ∅ : {A : Type 0} → SetOf A
+∅ = λ a. ⊥
+
+-- {a}
+abbrev pub only : {A : Type 0} → A → SetOf A
+only a = λ b. b ≡ a
+
+abbrev pub _∪_ : {A : Type 0} → SetOf A → SetOf A → SetOf A
+M ∪ N = λ a. (a ∈ M) ⊎ (a ∈ N)
+
+abbrev pub _∖_ : {A : Type 0} → SetOf A → SetOf A → SetOf A
+M ∖ N = λ a. (a ∈ M) × ¬ (a ∈ N)
+
+-- { f a | a ∈ M }
+abbrev pub image : {A B : Type 0} → (A → B) → SetOf A → SetOf B
+image {A} f M = λ b. (a : A) × (a ∈ M) × (b ≡ f a)
+
+-- R ' M, for an R that relates each a to its b
+abbrev pub images : {A B : Type 0} → (A → B → Type 0) → SetOf A → SetOf B
+images {A} R M = λ b. (a : A) × (a ∈ M) × R a b
+
+-- set: what stands in a list
+abbrev pub set : {A : Type 0} → List A → SetOf A
+set [] = ∅
+set (x ∷ xs) = only x ∪ set xs
+
+-- hd: the head of a list; the empty list has none
+abbrev pub hd : {A : Type 0} → List A → SetOf A
+hd [] = ∅
+hd (x ∷ xs) = only x
+
+-- distinct: nothing stands in the list twice
+abbrev pub distinct : {A : Type 0} → List A → Type 0
+distinct [] = Unit {0}
+distinct (x ∷ xs) = (¬ (x ∈ set xs)) × distinct xs
+
+-- m = Max M: m is in M, and all that is in M is at most m
+pub record Max {A : Type 0} (at-most : A → A → Type 0) (M : SetOf A) (m : A) : Type 0 where
+  pub among : m ∈ M
+  pub bound : (a : A) → a ∈ M → at-most a m
