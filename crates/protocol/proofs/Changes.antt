@@ -13,20 +13,27 @@ use Rattle.protocol.specs.Schedule.{wq, holds, waits, dependants, cprec,
 use Rattle.protocol.specs.Rules.{create, exit, set as set-step, request, valid, after}
 use Rattle.protocol.specs.Children.{children}
 use Rattle.protocol.proofs.Order.{≼-total}
-use Rattle.protocol.proofs.Highest.{max-map}
+use Rattle.protocol.proofs.Highest.{max-unique, max-map}
 use Rattle.protocol.proofs.Chains.{Depends, Reach, Free, hop-reach, depends-reach, reach-depends, free-independent, no-circle}
 use Rattle.protocol.proofs.Graphs.{leads, depends-way}
 use Rattle.protocol.proofs.Hops.{depends-map, depends-but, depends-added}
 use Rattle.protocol.proofs.Lists.{Holding, hd-one}
 use Rattle.protocol.proofs.Ways.{one-holder, waits-free}
-use Rattle.protocol.proofs.Kept.{Kept, valid-kept, joins, passes, releaser-holds, caller-runs, last-step, valid-before}
+use Rattle.protocol.proofs.Kept.{valid-kept, joins, passes, releaser-holds, caller-runs, last-step, valid-before}
 use Rattle.protocol.proofs.Forest.{Joins, children-join, join-children, join-new, Passes, pass-queue, pass-children, children-pass, heir-free}
-use Rattle.protocol.proofs.Current.{current-cprec, cprec-current, cprec-unique, cprec-some, parents, dependant-live, dependee-live}
+use Rattle.protocol.proofs.Current.{Orderly, current-cprec, cprec-current, cprec-some, parents, dependant-live, dependee-live}
+use Rattle.protocol.proofs.Finite.{orderly}
 use Rattle.protocol.proofs.Edges.{heir-holds}
 
 -- th has the same current precedence in both states
 abbrev pub Same-cprec : State → State → Thread → Type 0
 Same-cprec s s′ th = (m : Precedence) → cprec s th m ↔ cprec s′ th m
+
+abbrev own : State → ℕ → Precedence
+own s = λ u. prec u s
+
+order : (s : State) → valid s → Orderly (wq s) (threads s)
+order s v = orderly s (valid-kept s v)
 
 abbrev Below : State → ℕ → ℕ → Type 0
 Below s u t = Depends (children (wq s)) u t
@@ -35,8 +42,8 @@ Below s u t = Depends (children (wq s)) u t
 same-behind : (s s′ : State) (t : ℕ) → ((u : ℕ) → Below s u t → Below s′ u t) → ((u : ℕ) → Below s′ u t → Below s u t) →
     prec t s ≡ prec t s′ → ((u : ℕ) → Below s u t → prec u s ≡ prec u s′) → Same-cprec s s′ t
 same-behind s s′ t to from e agree m = (
-  λ k. current-cprec s′ t m (max-map _≼_ ≼-total forth back (cprec-current s t m k)),
-  λ k. current-cprec s t m (max-map _≼_ ≼-total back forth (cprec-current s′ t m k)),
+  λ k. current-cprec (wq s′) (own s′) t m (max-map _≼_ ≼-total forth back (cprec-current (wq s) (own s) t m k)),
+  λ k. current-cprec (wq s) (own s) t m (max-map _≼_ ≼-total back forth (cprec-current (wq s′) (own s′) t m k)),
 )
   where
     forth : (a : Precedence) → a ∈ (only (prec t s) ∪ image (λ u. prec u s) (λ u. Below s u t)) → a ∈ (only (prec t s′) ∪ image (λ u. prec u s′) (λ u. Below s′ u t))
@@ -49,11 +56,11 @@ same-behind s s′ t to from e agree m = (
 
 -- a thread on which nobody depends has its own precedence
 alone : (s : State) (t : ℕ) → ((u : ℕ) → ¬ Below s u t) → cprec s t (prec t s)
-alone s t nobody = current-cprec s t (prec t s) (record { among = inl refl; bound = λ a. ⊎-elim inl (λ w. absurd (nobody (w .0) (w .1))) })
+alone s t nobody = current-cprec (wq s) (own s) t (prec t s) (record { among = inl refl; bound = λ a. ⊎-elim inl (λ w. absurd (nobody (w .0) (w .1))) })
 
 -- who runs waits for nobody, so it depends on nobody
 runner-free : (s : State) (t : ℕ) → t ∈ running s → Free (children (wq s)) t
-runner-free s t r = waits-free (wq s) t (r .is-ready .1)
+runner-free s t r = waits-free (wq s) t (r .among .1)
 
 -- Create and Set give their thread the priority and the time now, and change no other's own precedence
 
@@ -66,11 +73,11 @@ else-prec s th u prio n = rw (ne-eqb th u (λ e. n (sym e)))
 -- Create: the new thread's current precedence is its own, and all others keep theirs.
 
 pub created-cprec : (s : State) (th : Thread) (prio : Priority) → valid (Create th prio ∷ s) → cprec (Create th prio ∷ s) th (prio, length s)
-created-cprec s th prio (after v (create dead)) = subst (λ (p : Precedence). cprec (Create th prio ∷ s) th p) (stamped-prec s th prio) (alone (Create th prio ∷ s) th (λ u d. dead (dependee-live s (valid-kept s v) d)))
+created-cprec s th prio (after v (create dead)) = subst (λ (p : Precedence). cprec (Create th prio ∷ s) th p) (stamped-prec s th prio) (alone (Create th prio ∷ s) th (λ u d. dead (dependee-live (order s v) d)))
 
 pub create-cprec : (s : State) (th : Thread) (prio : Priority) → valid (Create th prio ∷ s) → (th′ : Thread) → th′ ≢ th → Same-cprec (Create th prio ∷ s) s th′
 create-cprec s th prio (after v (create dead)) th′ n = same-behind (Create th prio ∷ s) s th′ (λ u d. d) (λ u d. d) (else-prec s th th′ prio n)
-    (λ u d. else-prec s th u prio (λ e. dead (rw e at (dependant-live s (valid-kept s v) d))))
+    (λ u d. else-prec s th u prio (λ e. dead (rw e at (dependant-live (order s v) d))))
 
 -- Exit: all keep theirs.
 pub exit-cprec : (s : State) (th : Thread) → valid (Exit th ∷ s) → (th′ : Thread) → Same-cprec (Exit th ∷ s) s th′
@@ -147,11 +154,8 @@ module _ (s : State) (th : Thread) (cs : Resource) (v : valid (P th cs ∷ s)) (
   pub early-stop : (th′ th″ : Thread) → th ∈ dependants (P th cs ∷ s) th′ → th′ ∈ dependants (P th cs ∷ s) th″ → Same-cprec (P th cs ∷ s) s th′ → Same-cprec (P th cs ∷ s) s th″
   early-stop th′ th″ i i′ same m = (back, keep m)
     where
-      kept : Kept s
-      kept = valid-kept s (valid-before v)
-
-      kept′ : Kept (P th cs ∷ s)
-      kept′ = valid-kept (P th cs ∷ s) v
+      order′ : Orderly (wq (P th cs ∷ s)) (threads (P th cs ∷ s))
+      order′ = order (P th cs ∷ s) v
 
       to-th′ : Below (P th cs ∷ s) th th′
       to-th′ = leads (wq (P th cs ∷ s)) i
@@ -159,28 +163,28 @@ module _ (s : State) (th : Thread) (cs : Resource) (v : valid (P th cs ∷ s)) (
       -- th′ was a dependant of th″ before: else the way from it came by th, and there were a circle
       on-th″ : Below s th′ th″
       on-th″ = ⊎-elim (λ (d : Below s th′ th″). d)
-          (λ w. absurd (no-circle (children (wq (P th cs ∷ s))) (parents (P th cs ∷ s) kept′) (kept′ .forest .ends th .1) (depends-reach (children (wq (P th cs ∷ s))) to-th′ (was-reached (w .0)))))
+          (λ w. absurd (no-circle (children (wq (P th cs ∷ s))) (parents order′) (order′ .forest .ends th .1) (depends-reach (children (wq (P th cs ∷ s))) to-th′ (was-reached (w .0)))))
           (by-th (leads (wq (P th cs ∷ s)) i′))
 
       -- who comes by th is at most what th′ has, and th′ had it before
       below-th′ : (n : Precedence) → cprec s th″ n → (u : ℕ) → Below (P th cs ∷ s) u th′ → prec u s ≼ n
-      below-th′ n k u d = ≼-total .transitive (prec u s) (now′ .0) n (cprec-current (P th cs ∷ s) th′ (now′ .0) (now′ .1) .bound (prec u s) (inr (u, d, refl))) (⊎-elim
-          (λ (e : now′ .0 ≡ prec th′ s). rw e (cprec-current s th″ n k .bound (prec th′ s) (inr (th′, on-th″, refl))))
-          (λ w. rw (w .2) (cprec-current s th″ n k .bound (prec (w .0) s) (inr (w .0, depends-reach (children (wq s)) (w .1) (inr on-th″), refl))))
-          (cprec-current s th′ (now′ .0) (same (now′ .0) .0 (now′ .1)) .among))
+      below-th′ n k u d = ≼-total .transitive (prec u s) (now′ .0) n (cprec-current (wq (P th cs ∷ s)) (own (P th cs ∷ s)) th′ (now′ .0) (now′ .1) .bound (prec u s) (inr (u, d, refl))) (⊎-elim
+          (λ (e : now′ .0 ≡ prec th′ s). rw e (cprec-current (wq s) (own s) th″ n k .bound (prec th′ s) (inr (th′, on-th″, refl))))
+          (λ w. rw (w .2) (cprec-current (wq s) (own s) th″ n k .bound (prec (w .0) s) (inr (w .0, depends-reach (children (wq s)) (w .1) (inr on-th″), refl))))
+          (cprec-current (wq s) (own s) th′ (now′ .0) (same (now′ .0) .0 (now′ .1)) .among))
         where
           now′ : (x : Precedence) × cprec (P th cs ∷ s) th′ x
-          now′ = cprec-some (P th cs ∷ s) kept′ th′
+          now′ = cprec-some order′ (own (P th cs ∷ s)) th′
 
       keep : (n : Precedence) → cprec s th″ n → cprec (P th cs ∷ s) th″ n
-      keep n k = current-cprec (P th cs ∷ s) th″ n (record { among = ⊎-elim inl (λ w. inr (w .0, was-below (w .1), w .2)) (cprec-current s th″ n k .among); bound = over })
+      keep n k = current-cprec (wq (P th cs ∷ s)) (own (P th cs ∷ s)) th″ n (record { among = ⊎-elim inl (λ w. inr (w .0, was-below (w .1), w .2)) (cprec-current (wq s) (own s) th″ n k .among); bound = over })
         where
           over : (a : Precedence) → a ∈ (only (prec th″ s) ∪ image (λ u. prec u s) (λ u. Below (P th cs ∷ s) u th″)) → a ≼ n
-          over a (inl e) = cprec-current s th″ n k .bound a (inl e)
+          over a (inl e) = cprec-current (wq s) (own s) th″ n k .bound a (inl e)
           over a (inr (u, d, e)) = ⊎-elim
-              (λ (b : Below s u th″). cprec-current s th″ n k .bound a (inr (u, b, e)))
+              (λ (b : Below s u th″). cprec-current (wq s) (own s) th″ n k .bound a (inr (u, b, e)))
               (λ w. rw e (below-th′ n k u (reach-depends (children (wq (P th cs ∷ s))) (was-reached (w .0)) to-th′)))
               (by-th d)
 
       back : cprec (P th cs ∷ s) th″ m → cprec s th″ m
-      back k = let w = cprec-some s kept th″ in rw (cprec-unique (P th cs ∷ s) th″ m (w .0) k (keep (w .0) (w .1))) (w .1)
+      back k = let w = cprec-some (order s (valid-before v)) (own s) th″ in rw (max-unique _≼_ ≼-total k (keep (w .0) (w .1))) (w .1)

@@ -33,7 +33,8 @@ use Rattle.protocol.specs.Demand3.{
   Second-sentence,
 }
 use Rattle.protocol.proofs.Kept.{Kept, valid-kept, valid-before, last-step, caller-runs}
-use Rattle.protocol.proofs.Finite.{size, live-below, dec-both, dec-not, dec-attached, attached-in}
+use Rattle.protocol.proofs.Decide.{dec-both, dec-not}
+use Rattle.protocol.proofs.Finite.{size, live-below, dec-attached, attached-in}
 use Rattle.protocol.proofs.Spared.{Stands, runs-at, idle-not-running, idle-stays, still-stands}
 use Rattle.protocol.proofs.Numbers.{sum, sum-grows, sum-less, sum-bound, number-below}
 

@@ -2,18 +2,10 @@
 use Prim.Native.Nat.{ℕ, zero, suc, _+_, _≤_, _<_}
 use mathlib.Core.Path.{_≡_, refl, sym, _∙_}
 use mathlib.Core.Logic.{_⊎_, inl, inr, ⊎-elim}
-use native.Mathlib.Decide.{ℕ-discrete}
 use native.Mathlib.Omega.{arith}
 use Rattle.protocol.specs.Sets.{SetOf, _∈_, image, Max}
+use Rattle.protocol.proofs.Decide.{below-suc}
 use Rattle.protocol.proofs.Order.{Total}
-
--- what holds below n and at n holds below n + 1
-pub below-suc : (n : ℕ) (P : ℕ → Type 0) → ((u : ℕ) → u < n → P u) → P n → (u : ℕ) → u < suc n → P u
-below-suc n P f e u l = go (ℕ-discrete u n)
-  where
-    go : Dec (u ≡ n) → P u
-    go (yes q) = rw q e
-    go (no ne) = f u (omega arith)
 
 module _ {A : Type 0} (at-most : A → A → Type 0) (total : Total at-most) where
   pub max-unique : {M : SetOf A} {x y : A} → Max at-most M x → Max at-most M y → x ≡ y

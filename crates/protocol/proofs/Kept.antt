@@ -1,7 +1,7 @@
 -- What every valid state keeps: set times lie before now and differ, queues hold live threads, and there is no circle.
 -- Assumes nothing.
 use Prim.Native.Nat.{ℕ, zero, suc, _+_, _≤_, _<_}
-use mathlib.Core.Path.{_≡_, refl, sym, _∙_}
+use mathlib.Core.Path.{_≡_, refl, sym, ap, _∙_}
 use mathlib.Core.Bool.{cond}
 use mathlib.Core.Option.{Option, none, some}
 use mathlib.Core.List.{List, [], _∷_, _++_}
@@ -10,7 +10,7 @@ use native.Mathlib.Omega.{arith}
 use lib.Dec.{eqb}
 use lib.ListN.{length}
 use Rattle.protocol.specs.Sets.{SetOf, _∈_, set}
-use Rattle.protocol.specs.Events.{Event, Create, Exit, Set, P, «V», State, threads, last-set}
+use Rattle.protocol.specs.Events.{Event, Create, Exit, Set, P, «V», State, threads, last-set, Precedence, prec}
 use Rattle.protocol.specs.Schedule.{wq, waits, holds, running}
 use Rattle.protocol.specs.Rules.{may-follow, step, create, exit, set as set-step, request, release, valid, start, after}
 use Rattle.protocol.specs.Demand3.{caller}
@@ -22,6 +22,9 @@ pub record Kept (s : State) : Type 0 where
   pub differ : (t u : ℕ) → t ∈ threads s → u ∈ threads s → last-set t s ≡ last-set u s → t ≡ u
   pub entries : (r t : ℕ) → t ∈ set (wq s r) → t ∈ threads s
   pub forest : Forest (wq s)
+
+pub prec-differs : {s : State} → Kept s → (t u : ℕ) → t ∈ threads s → u ∈ threads s → prec t s ≡ prec u s → t ≡ u
+prec-differs kept t u l m e = kept .differ t u l m (ap (λ (p : Precedence). p .1) e)
 
 -- whoever may follow in a state may follow in the queue
 pub follows : (s : State) (r : ℕ) (next : Option ℕ) → may-follow s r next → Follows (wq s r) next
@@ -50,7 +53,7 @@ module _ (s : State) (kept : Kept s) (th : ℕ) (live : SetOf ℕ) (old : (u : �
 -- what a P and a V by the rules do to the queues
 
 pub step-joins : (s : State) (th cs : ℕ) → Kept s → step s (P th cs) → Joins (wq s) th cs
-step-joins s th cs kept (request run chainless) = record { forest = kept .forest; idle = run .is-ready .1; chainless = chainless }
+step-joins s th cs kept (request run chainless) = record { forest = kept .forest; idle = run .among .1; chainless = chainless }
 
 pub step-passes : (s : State) (th cs : ℕ) (next : Option ℕ) → Kept s → step s («V» th cs next) → Passes (wq s) cs next
 step-passes s th cs next kept (release run held f) = record { forest = kept .forest; follows = follows s cs next f }
@@ -71,7 +74,7 @@ step-kept s (Create th prio) kept (create dead) = record {
 step-kept s (Exit th) kept (exit run bare) = record {
   timed = λ t l. omega (arith, kept .timed t (l .0));
   differ = λ t u l m q. kept .differ t u (l .0) (m .0) q;
-  entries = λ r t i. (kept .entries r t i, λ (e : t ≡ th). nowhere s th bare (run .is-ready .1) r (rw e at i));
+  entries = λ r t i. (kept .entries r t i, λ (e : t ≡ th). nowhere s th bare (run .among .1) r (rw e at i));
   forest = kept .forest;
 }
 step-kept s (Set th prio) kept (set-step run) = record {
@@ -83,7 +86,7 @@ step-kept s (Set th prio) kept (set-step run) = record {
 step-kept s (P th cs) kept (request run chainless) = record {
   timed = λ t l. omega (arith, kept .timed t l);
   differ = kept .differ;
-  entries = λ r t i. ⊎-elim (kept .entries r t) (λ (e : t ≡ th). rw e (run .is-ready .0)) (join-in (step-joins s th cs kept (request run chainless)) r t i);
+  entries = λ r t i. ⊎-elim (kept .entries r t) (λ (e : t ≡ th). rw e (run .among .0)) (join-in (step-joins s th cs kept (request run chainless)) r t i);
   forest = join-forest (step-joins s th cs kept (request run chainless));
 }
 step-kept s («V» th cs next) kept (release run held f) = record {

@@ -1,3 +1,4 @@
+pub mod Decide
 pub mod Order
 pub mod Highest
 pub mod Chains

@@ -16,11 +16,11 @@ use Rattle.protocol.specs.Children.{children}
 use Rattle.protocol.specs.Demand3.{holds-or-waits, spares}
 use Rattle.protocol.proofs.Order.{sides, ≼-total}
 use Rattle.protocol.proofs.Chains.{Depends, direct, through, Reach}
-use Rattle.protocol.proofs.Kept.{Kept, step-joins, step-passes}
+use Rattle.protocol.proofs.Kept.{Kept, prec-differs, step-joins, step-passes}
 use Rattle.protocol.proofs.Forest.{join-in, pass-in}
-use Rattle.protocol.proofs.Finite.{in-attached, attached-in}
+use Rattle.protocol.proofs.Finite.{orderly, in-attached, attached-in}
 use Rattle.protocol.proofs.Current.{cprec-current, cprec-some}
-use Rattle.protocol.proofs.Runner.{prec-differs, source, leader}
+use Rattle.protocol.proofs.Runner.{source, leader}
 use Rattle.protocol.proofs.Changes.{else-prec, stamped-prec}
 
 -- th is live in m, and its own precedence is p, the highest of all live threads
@@ -41,35 +41,35 @@ newer-lower prio now p h k = go (sides prio (p .0))
 module _ (m : State) (kept : Kept m) (th : ℕ) (p : Precedence) (stands : Stands th p m) where
   -- the current precedence of a live thread is at most p
   pub capped : (u : ℕ) → u ∈ threads m → (x : Precedence) → cprec m u x → x ≼ p
-  capped u l x k = let w = source m kept u l x k in rw (w .3) (stands .highest (w .0) (w .1))
+  capped u l x k = let w = source (orderly m kept) (λ v. prec v m) u l x k in rw (w .3) (stands .highest (w .0) (w .1))
 
   -- whoever runs does so at p
   pub runs-at : (u : ℕ) → u ∈ running m → cprec m u p
-  runs-at u r = subst (λ (x : Precedence). cprec m u x) (≼-total .antisymmetric (r .at) p (capped u (r .is-ready .0) (r .at) (r .current)) over) (r .current)
+  runs-at u r = subst (λ (x : Precedence). cprec m u x) (≼-total .antisymmetric (r .at) p (capped u (r .among .0) (r .at) (r .value)) over) (r .value)
     where
       lead : (t : ℕ) × (t ∈ ready m) × Reach (children (wq m)) th t
-      lead = leader m kept th (stands .live)
+      lead = leader (orderly m kept) th (stands .live)
 
       c : (x : Precedence) × cprec m (lead .0) x
-      c = cprec-some m kept (lead .0)
+      c = cprec-some (orderly m kept) (λ v. prec v m) (lead .0)
 
       -- th stands behind a ready thread, whose current precedence is thus at least p
       reached : p ≼ c .0
-      reached = rw (← stands .own) (cprec-current m (lead .0) (c .0) (c .1) .bound (prec th m) (⊎-elim (λ (e : th ≡ lead .0). inl (ap (λ (x : ℕ). prec x m) e)) (λ d. inr (th, d, refl)) (lead .2)))
+      reached = rw (← stands .own) (cprec-current (wq m) (λ v. prec v m) (lead .0) (c .0) (c .1) .bound (prec th m) (⊎-elim (λ (e : th ≡ lead .0). inl (ap (λ (x : ℕ). prec x m) e)) (λ d. inr (th, d, refl)) (lead .2)))
 
       over : p ≼ r .at
-      over = ≼-total .transitive p (c .0) (r .at) reached (r .highest .bound (c .0) (lead .0, lead .1, c .1))
+      over = ≼-total .transitive p (c .0) (r .at) reached (r .top .bound (c .0) (lead .0, lead .1, c .1))
 
   -- Lemma 2: another thread that neither holds nor waits does not run
   pub idle-not-running : (u : ℕ) → u ≢ th → ¬ holds-or-waits m u → ¬ (u ∈ running m)
-  idle-not-running u ne idle r = ne (prec-differs m kept u th (r .is-ready .0) (stands .live) (sym own ∙ sym (stands .own)))
+  idle-not-running u ne idle r = ne (prec-differs kept u th (r .among .0) (stands .live) (sym own ∙ sym (stands .own)))
     where
       nobody : {v : ℕ} → ¬ Depends (children (wq m)) v u
       nobody (direct (x, w, h)) = idle (inl (x, h))
       nobody (through d (x, w, h)) = idle (inl (x, h))
 
       own : p ≡ prec u m
-      own = ⊎-elim (λ (e : p ≡ prec u m). e) (λ w. absurd (nobody (w .1))) (cprec-current m u p (runs-at u r) .among)
+      own = ⊎-elim (λ (e : p ≡ prec u m). e) (λ w. absurd (nobody (w .1))) (cprec-current (wq m) (λ v. prec v m) u p (runs-at u r) .among)
 
   -- and after any event it still neither holds nor waits
   pub idle-stays : (u : ℕ) → u ≢ th → ¬ holds-or-waits m u → (e : Event) → step m e → ¬ holds-or-waits (e ∷ m) u

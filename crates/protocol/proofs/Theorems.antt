@@ -2,29 +2,26 @@
 use Prim.Native.Nat.{ℕ, _≤_, _<_}
 use mathlib.Core.Path.{_≡_, refl, sym, _∙_}
 use mathlib.Core.Logic.{_≢_, _⊎_, inl, inr, ⊎-elim, _↔_}
-use Rattle.protocol.specs.Sets.{SetOf, _∈_, only, _∪_, image, images, distinct, Max}
+use Rattle.protocol.specs.Sets.{SetOf, _∈_, only, _∪_, images, distinct, Max}
 use Rattle.protocol.specs.Events.{Thread, Resource, State, threads, Precedence, prec, _≼_}
 use Rattle.protocol.specs.Graph.{Node, T, C, _⁺, edge, then}
 use Rattle.protocol.specs.Schedule.{wq, holds, waits, RAG, cprec, ready, running}
 use Rattle.protocol.specs.Rules.{valid}
 use Rattle.protocol.specs.Ways.{Way}
 use Rattle.protocol.specs.Children.{children, local-law}
-use Rattle.protocol.proofs.Order.{≼-total}
-use Rattle.protocol.proofs.Highest.{max-map}
 use Rattle.protocol.proofs.Chains.{no-circle}
 use Rattle.protocol.proofs.Graphs.{snoc, leads}
 use Rattle.protocol.proofs.Ways.{one-holder, every-way, way-bounded}
-use Rattle.protocol.proofs.LocalLaw.{local-current, current-local}
+use Rattle.protocol.proofs.Kept.{Kept, valid-kept, prec-differs}
+use Rattle.protocol.proofs.Finite.{size, live-below, orderly}
+use Rattle.protocol.proofs.Current.{Orderly, parents, dec-parent, cprec-some, local-cprec, law-cprec}
+use Rattle.protocol.proofs.Runner.{running-unique, running-some}
 use Rattle.protocol.proofs.Walk.{Afresh, walk-on, walk-stop}
-use Rattle.protocol.proofs.Kept.{Kept, valid-kept}
-use Rattle.protocol.proofs.Finite.{size, live-below, dec-parent}
-use Rattle.protocol.proofs.Current.{parents, current-cprec, cprec-current, cprec-some, cprec-is-now, now, now-current, law-cprec}
-use Rattle.protocol.proofs.Runner.{prec-differs, running-unique, running-some}
 
 -- running s ⊆ ready s ⊆ threads s, and the threads are finitely many
 
 pub running-is-ready : (s : State) (th : Thread) → th ∈ running s → th ∈ ready s
-running-is-ready s th r = r .is-ready
+running-is-ready s th r = r .among
 
 pub ready-is-live : (s : State) (th : Thread) → th ∈ ready s → th ∈ threads s
 ready-is-live s th k = k .0
@@ -39,6 +36,9 @@ holds-one s th₁ th₂ cs = one-holder (wq s) cs th₁ th₂
 module _ (s : State) (v : valid s) where
   kept : Kept s
   kept = valid-kept s v
+
+  order : Orderly (wq s) (threads s)
+  order = orderly s kept
 
   -- a thread waits for at most one resource
   pub waits-one : (th : Thread) (cs₁ cs₂ : Resource) → waits s th cs₁ → waits s th cs₂ → cs₁ ≡ cs₂
@@ -59,13 +59,13 @@ module _ (s : State) (v : valid s) where
 
   -- precedences of live threads differ
   pub precs-differ : (th₁ th₂ : Thread) → th₁ ∈ threads s → th₂ ∈ threads s → prec th₁ s ≡ prec th₂ s → th₁ ≡ th₂
-  precs-differ = prec-differs s kept
+  precs-differ = prec-differs kept
 
   -- no circle: no way along the graph comes back to where it began
   pub acyclic : (a : Node) → ¬ (RAG s ⁺) a a
-  acyclic (T th) w = no-circle (children (wq s)) (parents s kept) (kept .forest .ends th .1) (leads (wq s) w)
+  acyclic (T th) w = no-circle (children (wq s)) (parents order) (kept .forest .ends th .1) (leads (wq s) w)
   acyclic (C cs) (edge k) = k
-  acyclic (C cs) (then {b = T th} k w) = no-circle (children (wq s)) (parents s kept) (kept .forest .ends th .1) (leads (wq s) (snoc w k))
+  acyclic (C cs) (then {b = T th} k w) = no-circle (children (wq s)) (parents order) (kept .forest .ends th .1) (leads (wq s) (snoc w k))
   acyclic (C cs) (then {b = C cs′} k w) = k
 
   -- from every node the way along the graph ends
@@ -78,35 +78,24 @@ module _ (s : State) (v : valid s) where
 
   -- at most one thread runs
   pub one-runs : (th₁ th₂ : Thread) → th₁ ∈ running s → th₂ ∈ running s → th₁ ≡ th₂
-  one-runs = running-unique s kept
+  one-runs = running-unique order (λ u. prec u s) precs-differ
 
   -- and one does whenever any is live
   pub some-runs : (th : Thread) → th ∈ threads s → (th′ : Thread) × (th′ ∈ running s)
-  some-runs = running-some s kept
+  some-runs = running-some order (λ u. prec u s)
 
   -- every thread has a current precedence
   pub has-cprec : (th : Thread) → (m : Precedence) × cprec s th m
-  has-cprec = cprec-some s kept
+  has-cprec = cprec-some order (λ u. prec u s)
 
   -- Lemma 4: cprec s th = Max ({prec th s} ∪ cprec s ' children s th)
   pub lemma-4 : (th : Thread) (m : Precedence) → cprec s th m ↔ Max _≼_ (only (prec th s) ∪ images (cprec s) (children (wq s) th)) m
-  lemma-4 th m = (
-    λ k. max-map _≼_ ≼-total to from (current-local _≼_ ≼-total (children (wq s)) (λ u. prec u s) (now s kept) th (λ u i. now-current s kept u) m (cprec-current s th m k)),
-    λ k. current-cprec s th m (local-current _≼_ ≼-total (children (wq s)) (λ u. prec u s) (now s kept) th (λ u i. now-current s kept u) m (max-map _≼_ ≼-total from to k)),
-  )
-    where
-      to : (a : Precedence) → a ∈ (only (prec th s) ∪ image (now s kept) (children (wq s) th)) → a ∈ (only (prec th s) ∪ images (cprec s) (children (wq s) th))
-      to a (inl e) = inl e
-      to a (inr (u, i, e)) = inr (u, i, rw e (cprec-some s kept u .1))
-
-      from : (a : Precedence) → a ∈ (only (prec th s) ∪ images (cprec s) (children (wq s) th)) → a ∈ (only (prec th s) ∪ image (now s kept) (children (wq s) th))
-      from a (inl e) = inl e
-      from a (inr (u, i, c)) = inr (u, i, cprec-is-now s kept u a c)
+  lemma-4 = local-cprec order (λ u. prec u s)
 
   -- Lemma 4's converse: whatever satisfies the local law at every live thread is the current precedence
   pub lemma-4-converse : (c : Thread → Precedence) → ((th : Thread) → th ∈ threads s → local-law (wq s) (λ u. prec u s) c th (c th)) →
       (th : Thread) → th ∈ threads s → cprec s th (c th)
-  lemma-4-converse = law-cprec s kept
+  lemma-4-converse = law-cprec order (λ u. prec u s)
 
   -- The law of the walk. Let the local law hold for the values c everywhere but at x, and let e be c with x worked out afresh,
   -- be it higher or lower. Then the law holds for e everywhere, or x waits for what some h holds and it holds everywhere but
@@ -118,7 +107,7 @@ module _ (s : State) (v : valid s) where
       local-law (wq s) (λ u. prec u s) c x (e x) → ((th : Thread) → th ≢ x → e th ≡ c th) →
       (((th : Thread) → th ∈ threads s → Law e th) ⊎ ((h : Thread) × (x ∈ children (wq s) h) × ((th : Thread) → th ∈ threads s → th ≢ h → Law e th)))
       × (e x ≡ c x → (th : Thread) → th ∈ threads s → Law e th)
-  walk c e x but-x there elsewhere = (go (dec-parent s x), walk-stop _≼_ (children (wq s)) (λ u. prec u s) (threads s) c e x but-x afresh)
+  walk c e x but-x there elsewhere = (go (dec-parent order x), walk-stop _≼_ (children (wq s)) (λ u. prec u s) (threads s) c e x but-x afresh)
     where
       afresh : Afresh _≼_ (children (wq s)) (λ u. prec u s) c x e
       afresh = record { there = there; elsewhere = elsewhere }
@@ -127,5 +116,5 @@ module _ (s : State) (v : valid s) where
       on = walk-on _≼_ (children (wq s)) (λ u. prec u s) (threads s) c e x but-x afresh
 
       go : Dec ((h : Thread) × (x ∈ children (wq s) h)) → ((th : Thread) → th ∈ threads s → Law e th) ⊎ ((h : Thread) × (x ∈ children (wq s) h) × ((th : Thread) → th ∈ threads s → th ≢ h → Law e th))
-      go (yes w) = inr (w .0, w .1, λ th l n. on th l (λ k. n (parents s kept x th (w .0) k (w .1))))
+      go (yes w) = inr (w .0, w .1, λ th l n. on th l (λ k. n (parents order x th (w .0) k (w .1))))
       go (no n) = inl (λ th l. on th l (λ k. n (th, k)))

@@ -5,7 +5,7 @@ use mathlib.Core.Bool.{cond}
 use mathlib.Core.Option.{Option, none, some}
 use mathlib.Core.List.{List, [], _∷_, _++_}
 use lib.Dec.{eqb}
-use Rattle.protocol.specs.Sets.{SetOf, _∈_, images, Max}
+use Rattle.protocol.specs.Sets.{SetOf, _∈_, Highest}
 use Rattle.protocol.specs.Events.{Thread, Resource, Event, Create, Exit, Set, P, «V», State, threads, Precedence, prec, _≼_}
 use Rattle.protocol.specs.Graph.{
   Queues,
@@ -63,11 +63,8 @@ abbrev pub ready : State → SetOf Thread
 ready s = λ th. (th ∈ threads s) × ((cs : Resource) → ¬ waits s th cs)
 
 -- running: ready, and its current precedence is the highest of all ready threads
-pub record running (s : State) (th : Thread) : Type 0 where
-  pub is-ready : th ∈ ready s
-  pub at : Precedence
-  pub current : cprec s th at
-  pub highest : Max _≼_ (images (cprec s) (ready s)) at
+abbrev pub running : State → SetOf Thread
+running s = Highest _≼_ (cprec s) (ready s)
 
 -- resources: what th has locked
 abbrev pub resources : State → Thread → SetOf Resource

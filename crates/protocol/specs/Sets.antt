@@ -52,3 +52,10 @@ distinct (x ∷ xs) = (¬ (x ∈ set xs)) × distinct xs
 pub record Max {A : Type 0} (at-most : A → A → Type 0) (M : SetOf A) (m : A) : Type 0 where
   pub among : m ∈ M
   pub bound : (a : A) → a ∈ M → at-most a m
+
+-- { a ∈ M | R a = Max (R ' M) }, for an R that relates each a to its b
+pub record Highest {A B : Type 0} (at-most : B → B → Type 0) (R : A → B → Type 0) (M : SetOf A) (a : A) : Type 0 where
+  pub among : a ∈ M
+  pub at : B
+  pub value : R a at
+  pub top : Max at-most (images R M) at

@@ -1,0 +1,39 @@
+-- Decisions. Assumes nothing.
+use Prim.Native.Nat.{ℕ, zero, suc, _<_}
+use mathlib.Core.Path.{_≡_}
+use native.Mathlib.Decide.{ℕ-discrete}
+use native.Mathlib.Omega.{arith}
+
+pub dec-not : {A : Type 0} → Dec A → Dec (¬ A)
+dec-not (yes a) = no (λ n. n a)
+dec-not (no n) = yes n
+
+pub dec-both : {A B : Type 0} → Dec A → Dec B → Dec (A × B)
+dec-both (yes a) (yes b) = yes (a, b)
+dec-both (yes a) (no n) = no (λ p. n (p .1))
+dec-both (no n) d = no (λ p. n (p .0))
+
+-- what holds below n and at n holds below n + 1
+pub below-suc : (n : ℕ) (Q : ℕ → Type 0) → ((u : ℕ) → u < n → Q u) → Q n → (u : ℕ) → u < suc n → Q u
+below-suc n Q f e u l = go (ℕ-discrete u n)
+  where
+    go : Dec (u ≡ n) → Q u
+    go (yes q) = rw q e
+    go (no ne) = f u (omega arith)
+
+-- whether some number satisfies Q, where only those below n can
+pub dec-some : (Q : ℕ → Type 0) → ((r : ℕ) → Dec (Q r)) → (n : ℕ) → ((r : ℕ) → Q r → r < n) → Dec ((r : ℕ) × Q r)
+dec-some Q dec n low = go (below n)
+  where
+    below : (n : ℕ) → Dec ((r : ℕ) × (r < n) × Q r)
+    below zero = no (λ w. absurd (omega (arith, w .1)))
+    below (suc n) = at (dec n) (below n)
+      where
+        at : Dec (Q n) → Dec ((r : ℕ) × (r < n) × Q r) → Dec ((r : ℕ) × (r < suc n) × Q r)
+        at (yes p) d = yes (n, omega arith, p)
+        at (no np) (yes w) = yes (w .0, omega (arith, w .1), w .2)
+        at (no np) (no nw) = no (λ w. below-suc n (λ r. ¬ Q r) (λ r l p. nw (r, l, p)) np (w .0) (w .1) (w .2))
+
+    go : Dec ((r : ℕ) × (r < n) × Q r) → Dec ((r : ℕ) × Q r)
+    go (yes w) = yes (w .0, w .2)
+    go (no nw) = no (λ w. nw (w .0, low (w .0) (w .1), w .1))
