@@ -1,16 +1,15 @@
 -- Document 000, section 4: which current precedences each event changes. Assumes nothing.
 use Prim.Native.Nat.{ℕ}
-use mathlib.Core.Path.{_≡_, refl, sym, ap, subst, _∙_}
-use mathlib.Core.Option.{Option, none, some}
-use mathlib.Core.List.{List, [], _∷_, _++_}
+use mathlib.Core.Path.{_≡_, refl, sym, subst, _∙_}
+use mathlib.Core.Option.{none, some}
+use mathlib.Core.List.{[], _∷_}
 use mathlib.Core.Logic.{_≢_, _⊎_, inl, inr, ⊎-elim, _↔_}
 use lib.ListN.{length}
-use lib.Dec.{eqb}
 use borrow.Author.Tests.{eq-eqb, ne-eqb}
-use Rattle.protocol.specs.Sets.{_∈_, set, only, _∪_, image, Max}
-use Rattle.protocol.specs.Events.{Thread, Priority, Resource, Event, Create, Exit, Set, P, «V», State, threads, Precedence, prec, _≼_}
-use Rattle.protocol.specs.Schedule.{wq, holds, waits, dependants, cprec, release, running}
-use Rattle.protocol.specs.Rules.{create, exit, set as set-step, request, valid, after}
+use Rattle.protocol.specs.Sets.{_∈_, only, _∪_, image}
+use Rattle.protocol.specs.Events.{Thread, Priority, Resource, Create, Exit, Set, P, «V», State, threads, Precedence, prec, _≼_}
+use Rattle.protocol.specs.Schedule.{wq, holds, dependants, cprec, release, running}
+use Rattle.protocol.specs.Rules.{create, set as set-step, valid, after}
 use Rattle.protocol.specs.Children.{children}
 use Rattle.protocol.proofs.Order.{≼-total}
 use Rattle.protocol.proofs.Highest.{max-unique, max-map}

@@ -1,41 +1,24 @@
 -- Demand 3 holds: specs/Demand3.antt has both statements and every word in them. Assumes nothing.
-use Prim.Native.Nat.{ℕ, zero, suc, _+_, _*_, _≤_, _<_}
-use mathlib.Core.Path.{_≡_, refl, sym, ap, subst, _∙_}
-use mathlib.Core.Bool.{Bool, cond, not}
+use Prim.Native.Nat.{ℕ, _+_, _*_, _≤_, _<_}
+use mathlib.Core.Path.{_≡_, refl, ap, _∙_}
+use mathlib.Core.Bool.{cond, not}
 use mathlib.Core.Option.{Option, none, some}
 use mathlib.Core.List.{List, [], _∷_, _++_}
-use mathlib.Core.Logic.{_≢_, _⊎_, inl, inr, ⊎-elim, _↔_}
+use mathlib.Core.Logic.{_≢_, _⊎_, inl, inr, ⊎-elim}
 use native.Mathlib.Decide.{ℕ-discrete}
 use native.Mathlib.Omega.{arith}
 use lib.Dec.{eqb}
 use borrow.Author.Tests.{eq-eqb, ne-eqb}
 use Rattle.protocol.specs.Sets.{_∈_, set}
-use Rattle.protocol.specs.Events.{Event, State, threads, prec}
+use Rattle.protocol.specs.Events.{Event, State, prec}
 use Rattle.protocol.specs.Schedule.{wq, running, detached}
 use Rattle.protocol.specs.Rules.{valid}
-use Rattle.protocol.specs.Demand3.{
-  Moment,
-  now,
-  before,
-  holds-or-waits,
-  Premises,
-  First-sentence,
-  caller,
-  tally,
-  calls,
-  calls-of-others,
-  others,
-  Number,
-  Until,
-  at-once,
-  so-far,
-  over,
-  Second-sentence,
-}
+use Rattle.protocol.specs.Demand3.{Moment, now, before, holds-or-waits, Premises, First-sentence, caller, tally, calls, calls-of-others, others, Number, Until, at-once, so-far, over, Second-sentence}
 use Rattle.protocol.proofs.Kept.{Kept, valid-kept, valid-before, last-step, caller-runs}
 use Rattle.protocol.proofs.Decide.{dec-both, dec-not}
 use Rattle.protocol.proofs.Finite.{size, live-below, dec-attached, attached-in}
 use Rattle.protocol.proofs.Spared.{Stands, runs-at, idle-not-running, idle-stays, still-stands}
+use Rattle.protocol.proofs.Theorems.{some-runs}
 use Rattle.protocol.proofs.Numbers.{sum, sum-grows, sum-less, sum-bound, number-below}
 
 -- the premises for all but the newest event
@@ -166,3 +149,7 @@ second-sentence s th s′ p n K count few = omega (arith, others-sum s th (count
 -- Lemma 2, in the paper's words: a detached thread other than th does not run
 pub lemma-2 : (s : State) (th : ℕ) (s′ : List Event) → Premises s th s′ → (th′ : ℕ) → th′ ≢ th → detached (s′ ++ s) th′ → ¬ (th′ ∈ running (s′ ++ s))
 lemma-2 s th s′ p th′ ne out = idle-not-running (s′ ++ s) (valid-kept (s′ ++ s) (p .by-rules)) th (prec th s) (stands s th s′ p) th′ ne (⊎-elim (out .0) (out .1))
+
+-- Lemma 3: some thread runs at every moment
+pub lemma-3 : (s : State) (th : ℕ) (s′ : List Event) → Premises s th s′ → (th′ : ℕ) × (th′ ∈ running (s′ ++ s))
+lemma-3 s th s′ p = some-runs (s′ ++ s) (p .by-rules) th (stands s th s′ p .live)

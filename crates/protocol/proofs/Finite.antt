@@ -1,13 +1,13 @@
 -- A state has finitely many threads and taken resources, so that each question about them is decided. Assumes nothing.
-use Prim.Native.Nat.{ℕ, zero, suc, _+_, _≤_, _<_, max}
-use mathlib.Core.Path.{_≡_, refl, sym, _∙_}
-use mathlib.Core.Option.{Option, none, some}
+use Prim.Native.Nat.{ℕ, suc, _<_, max}
+use mathlib.Core.Path.{_≡_, refl}
+use mathlib.Core.Option.{Option}
 use mathlib.Core.List.{List, [], _∷_, _++_}
-use mathlib.Core.Logic.{_≢_, _⊎_, inl, inr, ⊎-elim, _↔_}
+use mathlib.Core.Logic.{inl, inr, ⊎-elim}
 use native.Mathlib.Decide.{ℕ-discrete}
 use native.Mathlib.Omega.{arith}
 use Rattle.protocol.specs.Sets.{_∈_, set}
-use Rattle.protocol.specs.Events.{Event, Create, Exit, Set, P, «V», State, threads}
+use Rattle.protocol.specs.Events.{Create, Exit, Set, P, «V», State, threads}
 use Rattle.protocol.specs.Schedule.{wq, release}
 use Rattle.protocol.specs.Demand3.{holds-or-waits}
 use Rattle.protocol.proofs.Decide.{dec-not, dec-both, dec-some}

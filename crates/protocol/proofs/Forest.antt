@@ -1,35 +1,19 @@
 -- Queues without circles stay so through a request and a release, whoever follows. Assumes nothing.
-use Prim.Native.Nat.{ℕ, zero, suc}
-use mathlib.Core.Path.{_≡_, refl, sym, ap, subst, _∙_}
-use mathlib.Core.Option.{Option, none, some}
+use Prim.Native.Nat.{ℕ, zero}
+use mathlib.Core.Path.{_≡_, refl, sym, _∙_}
+use mathlib.Core.Option.{Option}
 use mathlib.Core.List.{List, [], _∷_, _++_}
 use mathlib.Core.Logic.{_≢_, _⊎_, inl, inr, ⊎-elim}
 use native.Mathlib.Decide.{ℕ-discrete}
-use Rattle.protocol.specs.Sets.{_∈_, set, hd, distinct}
+use Rattle.protocol.specs.Sets.{_∈_, set, distinct}
 use Rattle.protocol.specs.Graph.{Queues, holds, waits, all-unlocked, T, C, RAG, _⁺}
 use Rattle.protocol.specs.Schedule.{update, release}
 use Rattle.protocol.specs.Children.{children}
-use Rattle.protocol.proofs.Chains.{Reach, Free, Climb, stop, Ends}
+use Rattle.protocol.proofs.Chains.{Free, Climb, stop, Ends}
 use Rattle.protocol.proofs.Graphs.{leads-way}
 use Rattle.protocol.proofs.Hops.{climb-map, climb-added, climb-moved}
-use Rattle.protocol.proofs.Lists.{
-  Holding,
-  Waiting,
-  in-cases,
-  in-join,
-  distinct-join,
-  holding-stays,
-  waiting-stays,
-  holding-join,
-  waiting-join,
-  joined-waits,
-  Follows,
-  Released,
-  released,
-  update-cases,
-  update-there,
-}
-use Rattle.protocol.proofs.Ways.{One-wait, one-holder, free-waits, waits-free}
+use Rattle.protocol.proofs.Lists.{Holding, Waiting, in-cases, in-join, distinct-join, holding-stays, waiting-stays, holding-join, waiting-join, joined-waits, Follows, Released, released, update-cases, update-there}
+use Rattle.protocol.proofs.Ways.{One-wait, one-holder, free-waits}
 
 -- no thread stands twice in a queue, nobody waits for two resources, and every climb ends
 pub record Forest (wq : Queues) : Type 0 where

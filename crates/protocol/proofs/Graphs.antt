@@ -1,10 +1,9 @@
 -- The graph's closure and its hops from thread to thread say the same. Assumes nothing.
 use Prim.Native.Nat.{ℕ}
-use mathlib.Core.Path.{_≡_, refl}
-use mathlib.Core.Logic.{_⊎_, inl, inr, _↔_}
-use mathlib.Core.List.{List, [], _∷_}
-use Rattle.protocol.specs.Sets.{SetOf, _∈_}
-use Rattle.protocol.specs.Graph.{Queues, holds, waits, Node, T, C, RAG, _⁺, edge, then, dependants}
+use mathlib.Core.Path.{refl}
+use mathlib.Core.Logic.{inl, inr, _↔_}
+use Rattle.protocol.specs.Sets.{_∈_}
+use Rattle.protocol.specs.Graph.{Queues, holds, Node, T, C, RAG, _⁺, edge, then, dependants}
 use Rattle.protocol.specs.Children.{children}
 use Rattle.protocol.proofs.Chains.{Depends, direct, through, Reach, hop-reach}
 

@@ -1,11 +1,11 @@
 -- Lemma 4 both ways, over any one-hop relation and any totally ordered values. Assumes nothing.
 use Prim.Native.Nat.{ℕ, zero, suc, _+_, _≤_, _<_}
-use mathlib.Core.Path.{_≡_, refl, sym, _∙_}
-use mathlib.Core.Logic.{_⊎_, inl, inr, ⊎-elim}
+use mathlib.Core.Path.{_≡_, refl, _∙_}
+use mathlib.Core.Logic.{inl, inr, ⊎-elim}
 use native.Mathlib.Omega.{arith}
 use Rattle.protocol.specs.Sets.{SetOf, _∈_, only, _∪_, image, Max}
 use Rattle.protocol.proofs.Order.{Total}
-use Rattle.protocol.proofs.Chains.{Hops, Depends, direct, through, Reach, Climb, hop, Ends, One-parent, climb-unique}
+use Rattle.protocol.proofs.Chains.{Hops, Depends, direct, through, hop, Ends, One-parent, climb-unique}
 
 module _ {A : Type 0} (at-most : A → A → Type 0) (children : Hops) (own : ℕ → A) where
   -- m is the highest own value among t and those that depend on it

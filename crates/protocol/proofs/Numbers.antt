@@ -1,13 +1,13 @@
 -- Sums over a list of threads, and how many threads a set has. Assumes nothing.
 use Prim.Native.Nat.{ℕ, zero, suc, _+_, _*_, _≤_, _<_}
-use mathlib.Core.Path.{_≡_, refl, sym, _∙_}
+use mathlib.Core.Path.{_≡_, refl}
 use mathlib.Core.List.{List, [], _∷_}
-use mathlib.Core.Logic.{_≢_, _⊎_, inl, inr, ⊎-elim, _↔_}
+use mathlib.Core.Logic.{inl, inr, ⊎-elim}
 use native.Mathlib.Nat.{suc-mul}
 use native.Mathlib.Decide.{ℕ-discrete}
 use native.Mathlib.Omega.{arith}
 use lib.ListN.{length}
-use Rattle.protocol.specs.Sets.{SetOf, _∈_, set, distinct}
+use Rattle.protocol.specs.Sets.{SetOf, _∈_, set}
 use Rattle.protocol.specs.Demand3.{Number}
 
 abbrev pub sum : List ℕ → (ℕ → ℕ) → ℕ

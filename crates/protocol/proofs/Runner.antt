@@ -1,7 +1,7 @@
 -- One thread runs where any is live, and one only, over any queues in good order. Assumes nothing.
 use Prim.Native.Nat.{ℕ, _<_}
 use mathlib.Core.Path.{_≡_, refl, sym, subst, _∙_}
-use mathlib.Core.Logic.{_⊎_, inl, inr, ⊎-elim}
+use mathlib.Core.Logic.{inl, inr, ⊎-elim}
 use Rattle.protocol.specs.Sets.{SetOf, _∈_, image, images, Max, Highest}
 use Rattle.protocol.specs.Events.{Precedence, _≼_}
 use Rattle.protocol.specs.Graph.{Queues, waits, cprec}

@@ -1,17 +1,16 @@
 -- While the events spare the highest thread it stays the highest, and whoever stands in no queue neither runs nor joins one.
 -- Assumes nothing.
-use Prim.Native.Nat.{ℕ, zero, suc, _+_, _≤_, _<_}
+use Prim.Native.Nat.{ℕ, _≤_, _<_}
 use mathlib.Core.Path.{_≡_, refl, sym, ap, subst, _∙_}
-use mathlib.Core.Option.{some}
-use mathlib.Core.List.{List, [], _∷_, _++_}
+use mathlib.Core.List.{_∷_}
 use mathlib.Core.Logic.{_≢_, _⊎_, inl, inr, ⊎-elim}
 use native.Mathlib.Decide.{ℕ-discrete}
 use native.Mathlib.Omega.{arith}
 use lib.ListN.{length}
-use Rattle.protocol.specs.Sets.{_∈_, set}
-use Rattle.protocol.specs.Events.{Event, Create, Exit, Set, P, «V», State, threads, priority, Precedence, prec, _≼_}
+use Rattle.protocol.specs.Sets.{_∈_}
+use Rattle.protocol.specs.Events.{Event, Create, Exit, Set, P, «V», State, threads, Precedence, prec, _≼_}
 use Rattle.protocol.specs.Schedule.{wq, cprec, ready, running}
-use Rattle.protocol.specs.Rules.{step, create, exit, set as set-step, request, release}
+use Rattle.protocol.specs.Rules.{step, create, request}
 use Rattle.protocol.specs.Children.{children}
 use Rattle.protocol.specs.Demand3.{holds-or-waits, spares}
 use Rattle.protocol.proofs.Order.{sides, ≼-total}

@@ -1,24 +1,26 @@
 -- The paper's theorems, for every valid state. Assumes nothing.
 use Prim.Native.Nat.{ℕ, _≤_, _<_}
-use mathlib.Core.Path.{_≡_, refl, sym, _∙_}
-use mathlib.Core.Logic.{_≢_, _⊎_, inl, inr, ⊎-elim, _↔_}
-use Rattle.protocol.specs.Sets.{SetOf, _∈_, only, _∪_, images, distinct, Max}
+use mathlib.Core.Path.{_≡_}
+use mathlib.Core.Logic.{_≢_, _⊎_, inl, inr, _↔_}
+use Rattle.protocol.specs.Sets.{_∈_, only, _∪_, images, set, distinct, Max}
 use Rattle.protocol.specs.Events.{Thread, Resource, State, threads, Precedence, prec, _≼_}
 use Rattle.protocol.specs.Graph.{Node, T, C, _⁺, edge, then}
 use Rattle.protocol.specs.Schedule.{wq, holds, waits, RAG, cprec, ready, running}
 use Rattle.protocol.specs.Rules.{valid}
 use Rattle.protocol.specs.Ways.{Way}
 use Rattle.protocol.specs.Children.{children, local-law}
+use Rattle.protocol.proofs.Order.{≼-total}
+use Rattle.protocol.proofs.Highest.{max-unique}
 use Rattle.protocol.proofs.Chains.{no-circle}
 use Rattle.protocol.proofs.Graphs.{snoc, leads}
 use Rattle.protocol.proofs.Ways.{one-holder, every-way, way-bounded}
 use Rattle.protocol.proofs.Kept.{Kept, valid-kept, prec-differs}
-use Rattle.protocol.proofs.Finite.{size, live-below, orderly}
+use Rattle.protocol.proofs.Finite.{size, live-below, taken-below, orderly}
 use Rattle.protocol.proofs.Current.{Orderly, parents, dec-parent, cprec-some, local-cprec, law-cprec}
 use Rattle.protocol.proofs.Runner.{running-unique, running-some}
 use Rattle.protocol.proofs.Walk.{Afresh, walk-on, walk-stop}
 
--- running s ⊆ ready s ⊆ threads s, and the threads are finitely many
+-- running s ⊆ ready s ⊆ threads s; the threads are finitely many, and so are the taken resources, so the graph is finite
 
 pub running-is-ready : (s : State) (th : Thread) → th ∈ running s → th ∈ ready s
 running-is-ready s th r = r .among
@@ -28,6 +30,9 @@ ready-is-live s th k = k .0
 
 pub finite-threads : (s : State) → (n : ℕ) × ((th : Thread) → th ∈ threads s → th < n)
 finite-threads s = (size s, live-below s)
+
+pub finite-resources : (s : State) → (n : ℕ) × ((cs : Resource) (th : Thread) → th ∈ set (wq s cs) → cs < n)
+finite-resources s = (size s, taken-below s)
 
 -- a resource has at most one holder
 pub holds-one : (s : State) (th₁ th₂ : Thread) (cs : Resource) → holds s th₁ cs → holds s th₂ cs → th₁ ≡ th₂
@@ -84,9 +89,12 @@ module _ (s : State) (v : valid s) where
   pub some-runs : (th : Thread) → th ∈ threads s → (th′ : Thread) × (th′ ∈ running s)
   some-runs = running-some order (λ u. prec u s)
 
-  -- every thread has a current precedence
+  -- every thread has a current precedence, and one only
   pub has-cprec : (th : Thread) → (m : Precedence) × cprec s th m
   has-cprec = cprec-some order (λ u. prec u s)
+
+  pub one-cprec : (th : Thread) (m₁ m₂ : Precedence) → cprec s th m₁ → cprec s th m₂ → m₁ ≡ m₂
+  one-cprec th m₁ m₂ = max-unique _≼_ ≼-total
 
   -- Lemma 4: cprec s th = Max ({prec th s} ∪ cprec s ' children s th)
   pub lemma-4 : (th : Thread) (m : Precedence) → cprec s th m ↔ Max _≼_ (only (prec th s) ∪ images (cprec s) (children (wq s) th)) m

@@ -1,10 +1,10 @@
 -- The law of the walk: where the local law holds everywhere but at one thread, working that one out afresh leaves it broken
 -- at its holder at most, and nowhere if the value stayed the same. Values may rise or fall. Assumes nothing.
 use Prim.Native.Nat.{ℕ}
-use mathlib.Core.Path.{_≡_, refl, sym, _∙_}
-use mathlib.Core.Logic.{_≢_, _⊎_, inl, inr, ⊎-elim}
+use mathlib.Core.Path.{_≡_, sym, _∙_}
+use mathlib.Core.Logic.{_≢_, inl, inr, ⊎-elim}
 use native.Mathlib.Decide.{ℕ-discrete}
-use Rattle.protocol.specs.Sets.{SetOf, _∈_, only, _∪_, image, Max}
+use Rattle.protocol.specs.Sets.{SetOf, _∈_}
 use Rattle.protocol.proofs.Chains.{Hops}
 use Rattle.protocol.proofs.LocalLaw.{Local}
 

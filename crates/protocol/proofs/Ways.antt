@@ -1,12 +1,11 @@
 -- The way along the graph from a node: it is a climb, no two have different lengths, and over N resources it passes at most N
 -- holders. Assumes nothing.
-use Prim.Native.Nat.{ℕ, zero, suc, _+_, _≤_, _<_}
-use mathlib.Core.Path.{_≡_, refl, sym, ap, subst, _∙_}
-use mathlib.Core.Logic.{_≢_, _⊎_, inl, inr, ⊎-elim}
+use Prim.Native.Nat.{ℕ, zero, suc, _≤_, _<_}
+use mathlib.Core.Path.{_≡_, refl, sym, ap, subst}
+use mathlib.Core.Logic.{inl}
 use mathlib.Core.List.{List, [], _∷_}
 use native.Mathlib.Decide.{ℕ-discrete}
 use native.Mathlib.Omega.{arith}
-use Rattle.protocol.specs.Sets.{SetOf, _∈_, set, hd}
 use Rattle.protocol.specs.Graph.{Queues, holds, waits, Node, T, C, RAG}
 use Rattle.protocol.specs.Children.{children}
 use Rattle.protocol.specs.Ways.{Way, ends, on-to-resource, on-to-holder}

@@ -1,6 +1,5 @@
 -- Document 000, section 4: the children of a thread, and the local law that Lemma 4 states. Assumes nothing.
-use Prim.Native.Nat.{ℕ}
-use Rattle.protocol.specs.Sets.{SetOf, _∈_, only, _∪_, image, Max}
+use Rattle.protocol.specs.Sets.{SetOf, only, _∪_, image, Max}
 use Rattle.protocol.specs.Events.{Thread, Resource, Precedence, _≼_}
 use Rattle.protocol.specs.Graph.{Queues, RAG, T, C}
 

@@ -1,5 +1,5 @@
 -- Demand 3, as definitions and as two statements; proofs/Demand3.antt proves both. Assumes nothing.
-use Prim.Native.Nat.{ℕ, zero, suc, _+_, _*_, _≤_}
+use Prim.Native.Nat.{ℕ, _+_, _*_, _≤_}
 use mathlib.Core.Path.{_≡_}
 use mathlib.Core.Logic.{_⊎_, _≢_, _↔_}
 use mathlib.Core.Bool.{Bool, cond, not}
@@ -64,9 +64,11 @@ abbrev pub calls-by : (Thread → Bool) → List Event → ℕ
 calls-by test [] = 0
 calls-by test (e ∷ es) = tally test (caller e) + calls-by test es
 
+-- how many of them are calls of th
 abbrev pub calls : Thread → List Event → ℕ
 calls th = calls-by (λ u. eqb u th)
 
+-- how many of them are calls of other threads than th
 abbrev pub calls-of-others : Thread → List Event → ℕ
 calls-of-others th = calls-by (λ u. not (eqb u th))
 

@@ -1,6 +1,5 @@
 -- Document 000, section 2: waiting queues, the resource allocation graph, dependants and the current precedence, for any
 -- waiting queues and any own precedences. Assumes nothing.
-use Prim.Native.Nat.{ℕ}
 use mathlib.Core.List.{List, []}
 use Rattle.protocol.specs.Sets.{SetOf, _∈_, only, _∪_, image, set, hd, Max}
 use Rattle.protocol.specs.Events.{Thread, Resource, Precedence, _≼_}

@@ -1,5 +1,4 @@
 -- Document 000, section 2: which event can happen next, and which states come about. Assumes nothing.
-use Prim.Native.Nat.{ℕ}
 use mathlib.Core.Option.{Option, none, some}
 use mathlib.Core.List.{[], _∷_}
 use Rattle.protocol.specs.Sets.{_∈_}

@@ -1,22 +1,12 @@
 -- Document 000, section 2: the waiting queues of a state (the paper's schs), and the notions of the graph for a state; who
 -- is ready, who runs, what a thread has locked, and when it is detached. Assumes nothing.
-use Prim.Native.Nat.{ℕ}
 use mathlib.Core.Bool.{cond}
 use mathlib.Core.Option.{Option, none, some}
 use mathlib.Core.List.{List, [], _∷_, _++_}
 use lib.Dec.{eqb}
 use Rattle.protocol.specs.Sets.{SetOf, _∈_, Highest}
-use Rattle.protocol.specs.Events.{Thread, Resource, Event, Create, Exit, Set, P, «V», State, threads, Precedence, prec, _≼_}
-use Rattle.protocol.specs.Graph.{
-  Queues,
-  all-unlocked,
-  Node,
-  holds as holds-in,
-  waits as waits-in,
-  RAG as RAG-of,
-  dependants as dependants-in,
-  cprec as cprec-in,
-}
+use Rattle.protocol.specs.Events.{Thread, Resource, Create, Exit, Set, P, «V», State, threads, Precedence, prec, _≼_}
+use Rattle.protocol.specs.Graph.{Queues, all-unlocked, Node, holds as holds-in, waits as waits-in, RAG as RAG-of, dependants as dependants-in, cprec as cprec-in}
 
 -- wq(cs := q): cs has the queue q, every other resource has the queue that it had
 abbrev pub update : Queues → Resource → List Thread → Queues

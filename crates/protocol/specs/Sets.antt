@@ -6,30 +6,35 @@ use mathlib.Core.List.{List, [], _∷_}
 infix 4 _∈_
 infixr 6 _∪_
 infixl 6 _∖_
+-- a set of things of A
 abbrev pub SetOf : Type 0 → Type 1
 SetOf A = A → Type 0
 
+-- a is in M
 abbrev pub _∈_ : {A : Type 0} → A → SetOf A → Type 0
 a ∈ M = M a
 
+-- the empty set
 abbrev pub ∅ : {A : Type 0} → SetOf A
 ∅ = λ a. ⊥
 
--- {a}
+-- {a}: a alone
 abbrev pub only : {A : Type 0} → A → SetOf A
 only a = λ b. b ≡ a
 
+-- what is in M or in N
 abbrev pub _∪_ : {A : Type 0} → SetOf A → SetOf A → SetOf A
 M ∪ N = λ a. (a ∈ M) ⊎ (a ∈ N)
 
+-- what is in M and not in N
 abbrev pub _∖_ : {A : Type 0} → SetOf A → SetOf A → SetOf A
 M ∖ N = λ a. (a ∈ M) × ¬ (a ∈ N)
 
--- { f a | a ∈ M }
+-- { f a | a ∈ M }: what f gives for the things in M
 abbrev pub image : {A B : Type 0} → (A → B) → SetOf A → SetOf B
 image {A} f M = λ b. (a : A) × (a ∈ M) × (b ≡ f a)
 
--- R ' M, for an R that relates each a to its b
+-- R ' M: the same, for an R that relates each a to its b
 abbrev pub images : {A B : Type 0} → (A → B → Type 0) → SetOf A → SetOf B
 images {A} R M = λ b. (a : A) × (a ∈ M) × R a b
 
@@ -53,7 +58,7 @@ pub record Max {A : Type 0} (at-most : A → A → Type 0) (M : SetOf A) (m : A)
   pub among : m ∈ M
   pub bound : (a : A) → a ∈ M → at-most a m
 
--- { a ∈ M | R a = Max (R ' M) }, for an R that relates each a to its b
+-- { a ∈ M | R a = Max (R ' M) }: the things in M that R relates to the highest b
 pub record Highest {A B : Type 0} (at-most : B → B → Type 0) (R : A → B → Type 0) (M : SetOf A) (a : A) : Type 0 where
   pub among : a ∈ M
   pub at : B
