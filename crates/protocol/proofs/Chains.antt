@@ -64,7 +64,7 @@ module _ (children : Hops) where
   root (hop k c) = let w = root c in (w .0, w .1, inr (hop-reach k (w .2)))
 
   module _ (one-parent : One-parent children) where
-    -- what a thread reaches and is not, whom it waits for reaches
+    -- whom u depends on, the one that u waits for is or depends on
     pub past : {u p t : ℕ} → u ∈ children p → Depends children u t → Reach children p t
     past {u} {p} {t} k d = let w = first-hop d in subst (λ (x : ℕ). Reach children x t) (one-parent u (w .0) p (w .1) k) (w .2)
 

@@ -3,7 +3,7 @@ use Prim.Native.Nat.{ℕ}
 use mathlib.Core.Path.{_≡_, refl, sym, subst, _∙_}
 use mathlib.Core.Option.{none, some}
 use mathlib.Core.List.{[], _∷_}
-use mathlib.Core.Logic.{_≢_, _⊎_, inl, inr, ⊎-elim, _↔_}
+use mathlib.Core.Logic.{_≢_, _⊎_, inl, inr, ⊎-elim}
 use lib.ListN.{length}
 use borrow.Author.Tests.{eq-eqb, ne-eqb}
 use Rattle.protocol.specs.Sets.{_∈_, only, _∪_, image}
@@ -11,28 +11,21 @@ use Rattle.protocol.specs.Events.{Thread, Priority, Resource, Create, Ex
 use Rattle.protocol.specs.Schedule.{wq, holds, dependants, cprec, release, running}
 use Rattle.protocol.specs.Rules.{create, set as set-step, valid, after}
 use Rattle.protocol.specs.Children.{children}
+use Rattle.protocol.specs.Changes.{Same-cprec}
 use Rattle.protocol.proofs.Order.{≼-total}
 use Rattle.protocol.proofs.Highest.{max-unique, max-map}
 use Rattle.protocol.proofs.Chains.{Depends, Reach, Free, hop-reach, depends-reach, reach-depends, free-independent, no-circle}
 use Rattle.protocol.proofs.Graphs.{leads, depends-way}
 use Rattle.protocol.proofs.Hops.{depends-map, depends-but, depends-added}
-use Rattle.protocol.proofs.Lists.{Holding, hd-one}
+use Rattle.protocol.proofs.Lists.{Holding, hd-one, heir-holds}
 use Rattle.protocol.proofs.Ways.{one-holder, waits-free}
-use Rattle.protocol.proofs.Kept.{valid-kept, joins, passes, releaser-holds, caller-runs, last-step, valid-before}
+use Rattle.protocol.proofs.Kept.{joins, passes, releaser-holds, caller-runs, last-step, valid-before}
 use Rattle.protocol.proofs.Forest.{Joins, children-join, join-children, join-new, Passes, pass-queue, pass-children, children-pass, heir-free}
 use Rattle.protocol.proofs.Current.{Orderly, current-cprec, cprec-current, cprec-some, parents, dependant-live, dependee-live}
-use Rattle.protocol.proofs.Finite.{orderly}
-use Rattle.protocol.proofs.Edges.{heir-holds}
-
--- th has the same current precedence in both states
-abbrev pub Same-cprec : State → State → Thread → Type 0
-Same-cprec s s′ th = (m : Precedence) → cprec s th m ↔ cprec s′ th m
+use Rattle.protocol.proofs.Finite.{valid-orderly}
 
 abbrev own : State → ℕ → Precedence
 own s = λ u. prec u s
-
-order : (s : State) → valid s → Orderly (wq s) (threads s)
-order s v = orderly s (valid-kept s v)
 
 abbrev Below : State → ℕ → ℕ → Type 0
 Below s u t = Depends (children (wq s)) u t
@@ -61,7 +54,7 @@ alone s t nobody = current-cprec (wq s) (own s) t (prec t s) (record { among = i
 runner-free : (s : State) (t : ℕ) → t ∈ running s → Free (children (wq s)) t
 runner-free s t r = waits-free (wq s) t (r .among .1)
 
--- Create and Set give their thread the priority and the time now, and change no other's own precedence
+-- A Set gives its thread the priority and the time now, and changes no other's own precedence; a Create computes to the same
 
 pub stamped-prec : (s : State) (th : ℕ) (prio : Priority) → prec th (Set th prio ∷ s) ≡ (prio, length s)
 stamped-prec s th prio = rw (eq-eqb th th refl)
@@ -72,11 +65,11 @@ else-prec s th u prio n = rw (ne-eqb th u (λ e. n (sym e)))
 -- Create: the new thread's current precedence is its own, and all others keep theirs.
 
 pub created-cprec : (s : State) (th : Thread) (prio : Priority) → valid (Create th prio ∷ s) → cprec (Create th prio ∷ s) th (prio, length s)
-created-cprec s th prio (after v (create dead)) = subst (λ (p : Precedence). cprec (Create th prio ∷ s) th p) (stamped-prec s th prio) (alone (Create th prio ∷ s) th (λ u d. dead (dependee-live (order s v) d)))
+created-cprec s th prio (after v (create dead)) = subst (λ (p : Precedence). cprec (Create th prio ∷ s) th p) (stamped-prec s th prio) (alone (Create th prio ∷ s) th (λ u d. dead (dependee-live (valid-orderly s v) d)))
 
 pub create-cprec : (s : State) (th : Thread) (prio : Priority) → valid (Create th prio ∷ s) → (th′ : Thread) → th′ ≢ th → Same-cprec (Create th prio ∷ s) s th′
 create-cprec s th prio (after v (create dead)) th′ n = same-behind (Create th prio ∷ s) s th′ (λ u d. d) (λ u d. d) (else-prec s th th′ prio n)
-    (λ u d. else-prec s th u prio (λ e. dead (rw e at (dependant-live (order s v) d))))
+    (λ u d. else-prec s th u prio (λ e. dead (rw e at (dependant-live (valid-orderly s v) d))))
 
 -- Exit: all keep theirs.
 pub exit-cprec : (s : State) (th : Thread) → valid (Exit th ∷ s) → (th′ : Thread) → Same-cprec (Exit th ∷ s) s th′
@@ -154,7 +147,7 @@ module _ (s : State) (th : Thread) (cs : Resource) (v : valid (P th cs ∷ s)) (
   early-stop th′ th″ i i′ same m = (back, keep m)
     where
       order′ : Orderly (wq (P th cs ∷ s)) (threads (P th cs ∷ s))
-      order′ = order (P th cs ∷ s) v
+      order′ = valid-orderly (P th cs ∷ s) v
 
       to-th′ : Below (P th cs ∷ s) th th′
       to-th′ = leads (wq (P th cs ∷ s)) i
@@ -186,4 +179,4 @@ module _ (s : State) (th : Thread) (cs : Resource) (v : valid (P th cs ∷ s)) (
               (by-th d)
 
       back : cprec (P th cs ∷ s) th″ m → cprec s th″ m
-      back k = let w = cprec-some (order s (valid-before v)) (own s) th″ in rw (max-unique _≼_ ≼-total k (keep (w .0) (w .1))) (w .1)
+      back k = let w = cprec-some (valid-orderly s (valid-before v)) (own s) th″ in rw (max-unique _≼_ ≼-total k (keep (w .0) (w .1))) (w .1)

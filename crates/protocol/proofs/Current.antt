@@ -1,13 +1,14 @@
 -- Current precedences over any queues in good order: each thread has one, and the local law says which. Assumes nothing.
 use Prim.Native.Nat.{ℕ, suc, _≤_, _<_, max}
 use mathlib.Core.Path.{_≡_, refl}
-use mathlib.Core.Logic.{inl, inr, ⊎-elim, _↔_}
+use mathlib.Core.Logic.{_≢_, _⊎_, inl, inr, ⊎-elim, _↔_, Dec·and, Dec·not}
+use native.Mathlib.Decide.{map-dec}
 use native.Mathlib.Omega.{arith}
 use Rattle.protocol.specs.Sets.{SetOf, _∈_, only, _∪_, image, images, set, Max}
 use Rattle.protocol.specs.Events.{Precedence, _≼_}
 use Rattle.protocol.specs.Graph.{Queues, waits, cprec}
 use Rattle.protocol.specs.Children.{children, local-law}
-use Rattle.protocol.proofs.Decide.{dec-not, dec-both, dec-some}
+use Rattle.protocol.proofs.Decide.{dec-some}
 use Rattle.protocol.proofs.Order.{≼-total}
 use Rattle.protocol.proofs.Highest.{max-unique, max-map, max-below}
 use Rattle.protocol.proofs.Chains.{Depends, direct, through, Reach, One-parent, first-hop, dec-reach}
@@ -15,6 +16,7 @@ use Rattle.protocol.proofs.Graphs.{leads, depends-way}
 use Rattle.protocol.proofs.Lists.{dec-in, dec-hd, in-held}
 use Rattle.protocol.proofs.Ways.{one-parent, climb-way, way-bounded}
 use Rattle.protocol.proofs.LocalLaw.{Current, local-current, current-local, local-is-current}
+use Rattle.protocol.proofs.Walk.{Afresh, walk-on, walk-stop}
 use Rattle.protocol.proofs.Forest.{Forest}
 
 -- the paper's closure and the hops name the same dependants
@@ -41,26 +43,22 @@ module _ {wq : Queues} {live : SetOf ℕ} (o : Orderly wq live) where
   pub child-live : (u t : ℕ) → u ∈ children wq t → u ∈ live
   child-live u t (r, w, h) = o .entries r u (w .0)
 
-  pub holder-live : (u t : ℕ) → u ∈ children wq t → t ∈ live
-  holder-live u t (r, w, h) = o .entries r t (h .0)
+  pub parent-live : (u t : ℕ) → u ∈ children wq t → t ∈ live
+  parent-live u t (r, w, h) = o .entries r t (h .0)
 
   pub dependant-live : {u t : ℕ} → Depends (children wq) u t → u ∈ live
   dependant-live {u} d = let w = first-hop (children wq) d in child-live u (w .0) (w .1)
 
   pub dependee-live : {u t : ℕ} → Depends (children wq) u t → t ∈ live
-  dependee-live {u} (direct {t = t} k) = holder-live u t k
-  dependee-live (through {v = v} {t = t} d k) = holder-live v t k
+  dependee-live {u} (direct {t = t} k) = parent-live u t k
+  dependee-live (through {v = v} {t = t} d k) = parent-live v t k
 
   pub dec-waiting : (t : ℕ) → Dec ((r : ℕ) × waits wq t r)
-  dec-waiting t = dec-some (waits wq t) (λ r. dec-both (dec-in t (wq r)) (dec-not (dec-hd t (wq r)))) (o .limit) (λ r w. o .taken-low r t (w .0))
+  dec-waiting t = dec-some (waits wq t) (λ r. Dec·and (dec-in t (wq r)) (Dec·not (dec-hd t (wq r)))) (o .limit) (λ r w. o .taken-low r t (w .0))
 
   -- whether t waits for somebody
   pub dec-parent : (t : ℕ) → Dec ((h : ℕ) × (t ∈ children wq h))
-  dec-parent t = go (dec-waiting t)
-    where
-      go : Dec ((r : ℕ) × waits wq t r) → Dec ((h : ℕ) × (t ∈ children wq h))
-      go (yes w) = let h = in-held (wq (w .0)) t (w .1 .0) in yes (h .0, (w .0, w .1, h .1))
-      go (no n) = no (λ k. n (k .1 .0, k .1 .1))
+  dec-parent t = map-dec (λ w. let h = in-held (wq (w .0)) t (w .1 .0) in (h .0, (w .0, w .1, h .1))) (λ k. (k .1 .0, k .1 .1)) (dec-waiting t)
 
   -- no climb is longer than there are resources
   pub short : (t : ℕ) → o .forest .ends t .0 ≤ o .limit
@@ -115,3 +113,20 @@ module _ {wq : Queues} {live : SetOf ℕ} (o : Orderly wq live) where
     -- and its converse: the local law fixes the values of the live threads
     pub law-cprec : (c : ℕ → Precedence) → ((t : ℕ) → t ∈ live → local-law wq own c t (c t)) → (t : ℕ) → t ∈ live → cprec wq own t (c t)
     law-cprec c law t l = current-cprec wq own t (c t) (local-is-current _≼_ ≼-total (children wq) own parents (o .forest .ends) (o .limit) short live child-live c law t l)
+
+    -- the law of the walk
+    pub law-walk : (c e : ℕ → Precedence) (x : ℕ) → ((t : ℕ) → t ∈ live → t ≢ x → local-law wq own c t (c t)) →
+        local-law wq own c x (e x) → ((t : ℕ) → t ≢ x → e t ≡ c t) →
+        (((t : ℕ) → t ∈ live → local-law wq own e t (e t)) ⊎ ((h : ℕ) × (x ∈ children wq h) × ((t : ℕ) → t ∈ live → t ≢ h → local-law wq own e t (e t))))
+        × (e x ≡ c x → (t : ℕ) → t ∈ live → local-law wq own e t (e t))
+    law-walk c e x but-x there elsewhere = (go (dec-parent x), walk-stop _≼_ (children wq) own live c e x but-x afresh)
+      where
+        afresh : Afresh _≼_ (children wq) own c x e
+        afresh = record { there = there; elsewhere = elsewhere }
+
+        on : (t : ℕ) → t ∈ live → ¬ (x ∈ children wq t) → local-law wq own e t (e t)
+        on = walk-on _≼_ (children wq) own live c e x but-x afresh
+
+        go : Dec ((h : ℕ) × (x ∈ children wq h)) → ((t : ℕ) → t ∈ live → local-law wq own e t (e t)) ⊎ ((h : ℕ) × (x ∈ children wq h) × ((t : ℕ) → t ∈ live → t ≢ h → local-law wq own e t (e t)))
+        go (yes w) = inr (w .0, w .1, λ t l n. on t l (λ k. n (parents x t (w .0) k (w .1))))
+        go (no n) = inl (λ t l. on t l (λ k. n (t, k)))

@@ -1,24 +1,24 @@
 -- Demand 3 holds: specs/Demand3.antt has both statements and every word in them. Assumes nothing.
 use Prim.Native.Nat.{ℕ, _+_, _*_, _≤_, _<_}
-use mathlib.Core.Path.{_≡_, refl, ap, _∙_}
+use mathlib.Core.Path.{_≡_, refl, ap, subst, _∙_}
 use mathlib.Core.Bool.{cond, not}
 use mathlib.Core.Option.{Option, none, some}
 use mathlib.Core.List.{List, [], _∷_, _++_}
-use mathlib.Core.Logic.{_≢_, _⊎_, inl, inr, ⊎-elim}
+use mathlib.Core.Logic.{_≢_, _⊎_, inl, inr, ⊎-elim, _↔_, Dec·and, Dec·not}
 use native.Mathlib.Decide.{ℕ-discrete}
 use native.Mathlib.Omega.{arith}
 use lib.Dec.{eqb}
 use borrow.Author.Tests.{eq-eqb, ne-eqb}
-use Rattle.protocol.specs.Sets.{_∈_, set}
-use Rattle.protocol.specs.Events.{Event, State, prec}
-use Rattle.protocol.specs.Schedule.{wq, running, detached}
+use Rattle.protocol.specs.Sets.{_∈_, images, set, Max}
+use Rattle.protocol.specs.Events.{Event, State, threads, Precedence, prec, _≼_}
+use Rattle.protocol.specs.Schedule.{wq, cprec, running, detached}
 use Rattle.protocol.specs.Rules.{valid}
-use Rattle.protocol.specs.Demand3.{Moment, now, before, holds-or-waits, Premises, First-sentence, caller, tally, calls, calls-of-others, others, Number, Until, at-once, so-far, over, Second-sentence}
+use Rattle.protocol.specs.Demand3.{Moment, now, before, holds-or-waits, Premises, First-sentence, caller, tally, calls, calls-of-others, others, Number, Until, none-yet, so-far, over, Second-sentence}
 use Rattle.protocol.proofs.Kept.{Kept, valid-kept, valid-before, last-step, caller-runs}
-use Rattle.protocol.proofs.Decide.{dec-both, dec-not}
 use Rattle.protocol.proofs.Finite.{size, live-below, dec-attached, attached-in}
-use Rattle.protocol.proofs.Spared.{Stands, runs-at, idle-not-running, idle-stays, still-stands}
-use Rattle.protocol.proofs.Theorems.{some-runs}
+use Rattle.protocol.proofs.Spared.{Stands, capped, runs-at, idle-not-running, idle-stays, still-stands}
+use Rattle.protocol.proofs.Theorems.{some-runs, has-cprec}
+use Rattle.protocol.proofs.Order.{≼-total}
 use Rattle.protocol.proofs.Numbers.{sum, sum-grows, sum-less, sum-bound, number-below}
 
 -- the premises for all but the newest event
@@ -85,11 +85,11 @@ ever-or-not s (e ∷ s′) u = go (dec-attached (e ∷ s′ ++ s) u) (ever-or-no
 
 -- the events until u first neither holds nor waits: there is one such list
 pub until-some : (s : State) (s′ : List Event) (u : ℕ) → (es : List Event) × Until u s s′ es
-until-some s [] u = ([], at-once)
+until-some s [] u = ([], none-yet)
 until-some s (e ∷ s′) u = ⊎-elim (λ f. (e ∷ s′, so-far f)) (λ w. let r = until-some s s′ u in (r .0, over (w .1) (w .2) (r .1))) (ever-or-not s s′ u)
 
 pub until-one : {s : State} {s′ es fs : List Event} {u : ℕ} → Until u s s′ es → Until u s s′ fs → es ≡ fs
-until-one at-once at-once = refl
+until-one none-yet none-yet = refl
 until-one (so-far f) (so-far g) = refl
 until-one (so-far f) (over mo n k) = absurd (n (f _ mo))
 until-one (over mo n k) (so-far f) = absurd (n (f _ mo))
@@ -97,7 +97,7 @@ until-one (over mo n k) (over mo′ n′ k′) = until-one k k′
 
 -- the others are a number
 pub others-number : (s : State) (th : ℕ) → valid s → (n : ℕ) × Number (others s th) n
-others-number s th v = let c = number-below (others s th) (λ u. dec-both (dec-not (ℕ-discrete u th)) (dec-attached s u)) (size s) in
+others-number s th v = let c = number-below (others s th) (λ u. Dec·and (Dec·not (ℕ-discrete u th)) (dec-attached s u)) (size s) in
     (c .0, record { each = c .1 .each; once = c .1 .once; exactly = λ u. ((λ i. c .1 .exactly u .0 i .1), λ o. c .1 .exactly u .1 (low u (o .1), o)); size = c .1 .size })
   where
     low : (u : ℕ) → holds-or-waits s u → u < size s
@@ -110,7 +110,7 @@ module _ (s : State) (th : ℕ) where
 
   -- all calls of another thread come before it first neither holds nor waits
   all-until : (s′ : List Event) → Premises s th s′ → (u : ℕ) → u ≢ th → (es : List Event) → Until u s s′ es → calls u es ≡ calls u s′
-  all-until s′ p u ne es at-once = refl
+  all-until s′ p u ne es none-yet = refl
   all-until s′ p u ne es (so-far f) = refl
   all-until s′ p u ne es (over {e = e} {s′ = s″} mo n k) = all-until s″ (earlier p) u ne es k ∙ go (caller e) refl
     where
@@ -153,3 +153,18 @@ lemma-2 s th s′ p th′ ne out = idle-not-running (s′ ++ s) (valid-kept (s�
 -- Lemma 3: some thread runs at every moment
 pub lemma-3 : (s : State) (th : ℕ) (s′ : List Event) → Premises s th s′ → (th′ : ℕ) × (th′ ∈ running (s′ ++ s))
 lemma-3 s th s′ p = some-runs (s′ ++ s) (p .by-rules) th (stands s th s′ p .live)
+
+-- The paper's premise in place of ours: th's own precedence is the highest of the live threads' own exactly when it is the
+-- highest of their current ones.
+pub highest-current : (s : State) → valid s → (th : ℕ) → th ∈ threads s →
+    ((u : ℕ) → u ∈ threads s → prec u s ≼ prec th s) ↔ Max _≼_ (images (cprec s) (threads s)) (prec th s)
+highest-current s v th l = (to, λ k u i. let c = has-cprec s v u in ≼-total .transitive (prec u s) (c .0) (prec th s) (c .1 .bound (prec u s) (inl refl)) (k .bound (c .0) (u, i, c .1)))
+  where
+    to : ((u : ℕ) → u ∈ threads s → prec u s ≼ prec th s) → Max _≼_ (images (cprec s) (threads s)) (prec th s)
+    to top = record { among = (th, l, subst (λ (x : Precedence). cprec s th x) (≼-total .antisymmetric (c .0) (prec th s) (cap th l (c .0) (c .1)) (c .1 .bound (prec th s) (inl refl))) (c .1)); bound = λ a w. cap (w .0) (w .1) a (w .2) }
+      where
+        c : (x : Precedence) × cprec s th x
+        c = has-cprec s v th
+
+        cap : (u : ℕ) → u ∈ threads s → (x : Precedence) → cprec s u x → x ≼ prec th s
+        cap = capped s (valid-kept s v) th (prec th s) (record { live = l; own = refl; highest = top })

@@ -11,18 +11,11 @@ use Rattle.protocol.specs.Events.{Thread, Priority, Resource, Create, Ex
 use Rattle.protocol.specs.Graph.{Node, T, C}
 use Rattle.protocol.specs.Schedule.{wq, holds, waits, RAG, release}
 use Rattle.protocol.specs.Rules.{valid}
-use Rattle.protocol.proofs.Lists.{Holding, Waiting, hd-one, update-there}
+use Rattle.protocol.specs.Changes.{Edge, Same-edges}
+use Rattle.protocol.proofs.Lists.{Holding, Waiting, hd-one, heir-holds, update-there}
 use Rattle.protocol.proofs.Ways.{one-holder}
 use Rattle.protocol.proofs.Kept.{joins, passes, releaser-holds}
 use Rattle.protocol.proofs.Forest.{Joins, Passes, join-waits, join-holds, waits-join, holds-join, newly-waits, pass-queue, pass-waits, pass-else, else-pass}
-
--- the one edge from a to b
-abbrev pub Edge : Node → Node → Node → Node → Type 0
-Edge a b = λ x y. (x ≡ a) × (y ≡ b)
-
--- two relations between nodes have the same edges
-abbrev pub Same-edges : (Node → Node → Type 0) → (Node → Node → Type 0) → Type 0
-Same-edges R Q = (x y : Node) → R x y ↔ Q x y
 
 apart : {A : Type 0} (t r : ℕ) → T t ≡ C r → A
 apart t r e = let z : _≡_ {A = ℕ} 0 1 = cc in absurd (omega arith)
@@ -77,11 +70,6 @@ taken-edges s th cs v h held = go
         new p q = rw (p, q) (newly-waits j h held)
     go (C r) (T t) = (λ k. ⊎-elim inl (λ n. absurd (rw (n .2) at (held .0))) (join-holds j r t k), ⊎-elim (holds-join j r t) (λ e. apart th r (sym (e .0))))
     go (C r) (C q) = (absurd, ⊎-elim (λ b. b) (λ e. apart th r (sym (e .0))))
-
--- who is named to follow holds the resource afterwards
-pub heir-holds : (q : List ℕ) (b : ℕ) → Waiting q b → Holding (release q (some b)) b
-heir-holds [] b w = absurd (w .0)
-heir-holds (x ∷ xs) b w = (inl refl, refl)
 
 -- V with a successor takes its waiting edge and th's holding edge away, and adds the successor's holding edge.
 pub pass-edges : (s : State) (th : Thread) (cs : Resource) (th′ : Thread) → valid («V» th cs (some th′) ∷ s) →

@@ -1,18 +1,19 @@
 -- A state has finitely many threads and taken resources, so that each question about them is decided. Assumes nothing.
 use Prim.Native.Nat.{ℕ, suc, _<_, max}
-use mathlib.Core.Path.{_≡_, refl}
+use mathlib.Core.Path.{refl}
 use mathlib.Core.Option.{Option}
 use mathlib.Core.List.{List, [], _∷_, _++_}
-use mathlib.Core.Logic.{inl, inr, ⊎-elim}
-use native.Mathlib.Decide.{ℕ-discrete}
+use mathlib.Core.Logic.{inl, inr, ⊎-elim, Dec·and, Dec·not}
+use native.Mathlib.Decide.{ℕ-discrete, map-dec}
 use native.Mathlib.Omega.{arith}
 use Rattle.protocol.specs.Sets.{_∈_, set}
 use Rattle.protocol.specs.Events.{Create, Exit, Set, P, «V», State, threads}
 use Rattle.protocol.specs.Schedule.{wq, release}
+use Rattle.protocol.specs.Rules.{valid}
 use Rattle.protocol.specs.Demand3.{holds-or-waits}
-use Rattle.protocol.proofs.Decide.{dec-not, dec-both, dec-some}
+use Rattle.protocol.proofs.Decide.{dec-either, dec-some}
 use Rattle.protocol.proofs.Lists.{dec-in, in-cases, update-cases}
-use Rattle.protocol.proofs.Kept.{Kept}
+use Rattle.protocol.proofs.Kept.{Kept, valid-kept}
 use Rattle.protocol.proofs.Current.{Orderly}
 
 -- above every live thread and every taken resource
@@ -50,20 +51,18 @@ taken-below («V» th cs next ∷ s) r t i = update-cases (wq s) cs (release (wq
 
 pub dec-live : (s : State) (t : ℕ) → Dec (t ∈ threads s)
 dec-live [] t = no (λ b. b)
-dec-live (Create th prio ∷ s) t = go (ℕ-discrete t th) (dec-live s t)
-  where
-    go : Dec (t ≡ th) → Dec (t ∈ threads s) → Dec (t ∈ threads (Create th prio ∷ s))
-    go (yes e) d = yes (inl e)
-    go (no n) (yes l) = yes (inr l)
-    go (no n) (no m) = no (⊎-elim n m)
-dec-live (Exit th ∷ s) t = dec-both (dec-live s t) (dec-not (ℕ-discrete t th))
+dec-live (Create th prio ∷ s) t = dec-either (ℕ-discrete t th) (dec-live s t)
+dec-live (Exit th ∷ s) t = Dec·and (dec-live s t) (Dec·not (ℕ-discrete t th))
 dec-live (Set th prio ∷ s) t = dec-live s t
 dec-live (P th cs ∷ s) t = dec-live s t
 dec-live («V» th cs next ∷ s) t = dec-live s t
 
--- a valid state's queues are in good order
+-- the queues of a state that keeps its order are in good order, and so are those of a valid state
 pub orderly : (s : State) → Kept s → Orderly (wq s) (threads s)
 orderly s kept = record { forest = kept .forest; entries = kept .entries; decided = dec-live s; limit = size s; thread-low = live-below s; taken-low = taken-below s }
+
+pub valid-orderly : (s : State) → valid s → Orderly (wq s) (threads s)
+valid-orderly s v = orderly s (valid-kept s v)
 
 -- to hold or wait is to stand in a queue
 pub in-attached : (s : State) (t r : ℕ) → t ∈ set (wq s r) → holds-or-waits s t
@@ -74,8 +73,4 @@ attached-in s t (inl h) = (h .0, h .1 .0)
 attached-in s t (inr w) = (w .0, w .1 .0)
 
 pub dec-attached : (s : State) (t : ℕ) → Dec (holds-or-waits s t)
-dec-attached s t = go (dec-some (λ r. t ∈ set (wq s r)) (λ r. dec-in t (wq s r)) (size s) (λ r. taken-below s r t))
-  where
-    go : Dec ((r : ℕ) × (t ∈ set (wq s r))) → Dec (holds-or-waits s t)
-    go (yes w) = yes (in-attached s t (w .0) (w .1))
-    go (no n) = no (λ a. n (attached-in s t a))
+dec-attached s t = map-dec (λ w. in-attached s t (w .0) (w .1)) (attached-in s t) (dec-some (λ r. t ∈ set (wq s r)) (λ r. dec-in t (wq s r)) (size s) (λ r. taken-below s r t))

@@ -12,7 +12,7 @@ use Rattle.protocol.specs.Children.{children}
 use Rattle.protocol.proofs.Chains.{Free, Climb, stop, Ends}
 use Rattle.protocol.proofs.Graphs.{leads-way}
 use Rattle.protocol.proofs.Hops.{climb-map, climb-added, climb-moved}
-use Rattle.protocol.proofs.Lists.{Holding, Waiting, in-cases, in-join, distinct-join, holding-stays, waiting-stays, holding-join, waiting-join, joined-waits, Follows, Released, released, update-cases, update-there}
+use Rattle.protocol.proofs.Lists.{Holding, Waiting, in-cases, in-join, distinct-join, holding-stays, waiting-stays, holding-join, waiting-join, joined-waits, Follows, Released, released, update-cases, update-there, update-else}
 use Rattle.protocol.proofs.Ways.{One-wait, one-holder, free-waits}
 
 -- no thread stands twice in a queue, nobody waits for two resources, and every climb ends
@@ -123,10 +123,10 @@ module _ {wq : Queues} {r : ℕ} {next : Option ℕ} (p : Passes wq r next) wher
 
   -- the other queues are what they were
   pub pass-else : (x : ℕ) → x ≢ r → (P : List ℕ → Type 0) → P (wq x) → P (passed x)
-  pass-else x n P p = update-cases wq r (release (wq r) next) (λ y q. y ≢ r → P (wq y) → P q) (λ n. absurd (n refl)) (λ y m n p. p) x n p
+  pass-else x n P p = rw (update-else wq r (release (wq r) next) x n) p
 
   pub else-pass : (x : ℕ) → x ≢ r → (P : List ℕ → Type 0) → P (passed x) → P (wq x)
-  else-pass x n P p = update-cases wq r (release (wq r) next) (λ y q. y ≢ r → P q → P (wq y)) (λ n. absurd (n refl)) (λ y m n p. p) x n p
+  else-pass x n P p = rw (update-else wq r (release (wq r) next) x n) at p
 
   -- a hop afterwards that does not end at the new holder was a hop before
   pub pass-children : (u v : ℕ) → u ∈ children passed v → (u ∈ children wq v) ⊎ Holding (release (wq r) next) v

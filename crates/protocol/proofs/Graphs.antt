@@ -1,7 +1,7 @@
 -- The graph's closure and its hops from thread to thread say the same. Assumes nothing.
 use Prim.Native.Nat.{ℕ}
 use mathlib.Core.Path.{refl}
-use mathlib.Core.Logic.{inl, inr, _↔_}
+use mathlib.Core.Logic.{inl, inr}
 use Rattle.protocol.specs.Sets.{_∈_}
 use Rattle.protocol.specs.Graph.{Queues, holds, Node, T, C, RAG, _⁺, edge, then, dependants}
 use Rattle.protocol.specs.Children.{children}
@@ -34,9 +34,6 @@ module _ (wq : Queues) where
   pub depends-way : {u t : ℕ} → Depends (children wq) u t → u ∈ dependants wq t
   depends-way (direct (r, w, h)) = then {b = C r} w (edge h)
   depends-way (through d (r, w, h)) = snoc {b = C r} (snoc (depends-way d) w) h
-
-  pub dependants-depend : (u t : ℕ) → (u ∈ dependants wq t) ↔ Depends (children wq) u t
-  dependants-depend u t = (leads, depends-way)
 
   pub leads-way : {r v t : ℕ} → holds wq v r → Reach (children wq) v t → (RAG wq ⁺) (C r) (T t)
   leads-way {r} h (inl e) = edge (rw e at h)

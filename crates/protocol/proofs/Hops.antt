@@ -22,9 +22,10 @@ module _ (old new : Hops) (b : ℕ) (free : Free old b) (kept : (u v : ℕ) → 
   depends-but n (direct k) = direct (kept _ _ n k)
   depends-but {t = t} n (through {v = v} d k) = through (depends-but (λ (e : v ≡ b). free t (rw e at k)) d) (kept v t n k)
 
--- t, which waited for nobody, now waits for h, which did not depend on t
+-- one hop is added, from t to h
 module _ (old new : Hops) (t h : ℕ) (keeps : (u v : ℕ) → u ∈ old v → u ∈ new v)
     (only : (u v : ℕ) → u ∈ new v → (u ∈ old v) ⊎ ((u ≡ t) × (v ≡ h))) where
+  -- where h neither is t nor depends on it, every climb still ends
   module _ (added : t ∈ new h) (no-circle : ¬ Reach old h t) where
     pub climb-untouched : {x n : ℕ} → Climb old x n → ¬ Reach old x t → Climb new x n
     climb-untouched (stop {t = x} f) a = stop (λ v k. ⊎-elim (f v) (λ e. a (inl (e .0))) (only x v k))
@@ -49,7 +50,8 @@ module _ (old new : Hops) (t h : ℕ) (keeps : (u v : ℕ) → u ∈ old v → u
       go (inr a) (inl j) = inr (a .0, inr (reach-hop old (a .1) j))
       go (inr a) (inr e) = inr (a .0, inl (sym (e .1)))
 
--- b waits no more, and all others wait for whom they waited for, or for b, or for nobody
+-- b waits no more, whoever else waited waits for whom it waited for or for b, and whoever did not wait does not: every climb
+-- still ends
 module _ (old new : Hops) (b : ℕ) (b-free : Free new b) (fewer : (x : ℕ) → Free old x → Free new x)
     (moves : (x v : ℕ) → x ∈ old v → (x ≡ b) ⊎ ((x ∈ new v) ⊎ (x ∈ new b))) where
   pub climb-moved : {x n : ℕ} → Climb old x n → Ends new x

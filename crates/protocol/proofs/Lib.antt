@@ -1,3 +1,4 @@
+-- Laws, from the bottom up; the theorems that the documents name are in Theorems, Edges, Changes and Demand3.
 pub mod Decide
 pub mod Order
 pub mod Highest

@@ -11,6 +11,7 @@ use borrow.Author.Tests.{eqb-true, eqb-false, eq-eqb, ne-eqb}
 use Rattle.protocol.specs.Sets.{_∈_, set, hd, distinct}
 use Rattle.protocol.specs.Schedule.{update, without, release}
 use Rattle.protocol.specs.Graph.{Queues}
+use Rattle.protocol.proofs.Decide.{dec-either}
 
 abbrev pub Holding : List ℕ → ℕ → Type 0
 Holding q t = (t ∈ set q) × (t ∈ hd q)
@@ -18,7 +19,7 @@ Holding q t = (t ∈ set q) × (t ∈ hd q)
 abbrev pub Waiting : List ℕ → ℕ → Type 0
 Waiting q t = (t ∈ set q) × ¬ (t ∈ hd q)
 
--- either: what a test of equality decides
+-- what holds of a where x is y, and of b where it is not, holds of what the test of equality picks
 pub if-equal {ℓ} : {A : Type ℓ} (x y : ℕ) (P : A → Type 0) (a b : A) → (x ≡ y → P a) → (x ≢ y → P b) → P (cond (eqb x y) a b)
 if-equal x y P a b f g = go (eqb x y) refl
   where
@@ -28,20 +29,11 @@ if-equal x y P a b f g = go (eqb x y) refl
 
 pub dec-in : (t : ℕ) (q : List ℕ) → Dec (t ∈ set q)
 dec-in t [] = no (λ b. b)
-dec-in t (x ∷ xs) = go (ℕ-discrete t x) (dec-in t xs)
-  where
-    go : Dec (t ≡ x) → Dec (t ∈ set xs) → Dec (t ∈ set (x ∷ xs))
-    go (yes e) d = yes (inl e)
-    go (no n) (yes i) = yes (inr i)
-    go (no n) (no m) = no (⊎-elim n m)
+dec-in t (x ∷ xs) = dec-either (ℕ-discrete t x) (dec-in t xs)
 
 pub dec-hd : (t : ℕ) (q : List ℕ) → Dec (t ∈ hd q)
 dec-hd t [] = no (λ b. b)
 dec-hd t (x ∷ xs) = ℕ-discrete t x
-
-pub hd-in : (t : ℕ) (q : List ℕ) → t ∈ hd q → t ∈ set q
-hd-in t [] h = h
-hd-in t (x ∷ xs) h = inl h
 
 pub hd-one : (q : List ℕ) (t v : ℕ) → t ∈ hd q → v ∈ hd q → t ≡ v
 hd-one [] t v h k = absurd h
@@ -139,6 +131,11 @@ released (x ∷ xs) (some b) d f = record {
     go : (u : ℕ) → u ∈ set xs → Dec (u ≡ b) → u ∈ set (b ∷ without b xs)
     go u i (yes e) = inl e
     go u i (no n) = inr (without-in b xs u i n)
+
+-- who is named to follow holds the resource afterwards
+pub heir-holds : (q : List ℕ) (b : ℕ) → Waiting q b → Holding (release q (some b)) b
+heir-holds [] b w = absurd (w .0)
+heir-holds (x ∷ xs) b w = (inl refl, refl)
 
 -- the queues after an update, one at a time
 pub update-cases : (wq : Queues) (r : ℕ) (q : List ℕ) (P : ℕ → List ℕ → Type 0) → P r q → ((x : ℕ) → x ≢ r → P x (wq x)) → (x : ℕ) → P x (update wq r q x)

@@ -1,12 +1,12 @@
 -- One thread runs where any is live, and one only, over any queues in good order. Assumes nothing.
 use Prim.Native.Nat.{ℕ, _<_}
 use mathlib.Core.Path.{_≡_, refl, sym, subst, _∙_}
-use mathlib.Core.Logic.{inl, inr, ⊎-elim}
+use mathlib.Core.Logic.{inl, inr, ⊎-elim, Dec·and, Dec·not}
+use native.Mathlib.Decide.{map-dec}
 use Rattle.protocol.specs.Sets.{SetOf, _∈_, image, images, Max, Highest}
 use Rattle.protocol.specs.Events.{Precedence, _≼_}
 use Rattle.protocol.specs.Graph.{Queues, waits, cprec}
 use Rattle.protocol.specs.Children.{children}
-use Rattle.protocol.proofs.Decide.{dec-both}
 use Rattle.protocol.proofs.Order.{≼-total}
 use Rattle.protocol.proofs.Highest.{max-unique, max-map, max-below}
 use Rattle.protocol.proofs.Chains.{Reach, root, one-root}
@@ -23,11 +23,7 @@ Runs wq own live = Highest _≼_ (cprec wq own) (Ready wq live)
 
 module _ {wq : Queues} {live : SetOf ℕ} (o : Orderly wq live) where
   pub dec-ready : (t : ℕ) → Dec (t ∈ Ready wq live)
-  dec-ready t = dec-both (o .decided t) (go (dec-waiting o t))
-    where
-      go : Dec ((r : ℕ) × waits wq t r) → Dec ((r : ℕ) → ¬ waits wq t r)
-      go (yes w) = no (λ n. n (w .0) (w .1))
-      go (no n) = yes (λ r w. n (r, w))
+  dec-ready t = Dec·and (o .decided t) (map-dec (λ n r w. n (r, w)) (λ n w. n (w .0) (w .1)) (Dec·not (dec-waiting o t)))
 
   -- the end of a live thread's climb is ready
   pub leader : (t : ℕ) → t ∈ live → (r : ℕ) × (r ∈ Ready wq live) × Reach (children wq) t r

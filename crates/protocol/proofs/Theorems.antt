@@ -1,7 +1,7 @@
 -- The paper's theorems, for every valid state. Assumes nothing.
 use Prim.Native.Nat.{ℕ, _≤_, _<_}
 use mathlib.Core.Path.{_≡_}
-use mathlib.Core.Logic.{_≢_, _⊎_, inl, inr, _↔_}
+use mathlib.Core.Logic.{_≢_, _⊎_, _↔_}
 use Rattle.protocol.specs.Sets.{_∈_, only, _∪_, images, set, distinct, Max}
 use Rattle.protocol.specs.Events.{Thread, Resource, State, threads, Precedence, prec, _≼_}
 use Rattle.protocol.specs.Graph.{Node, T, C, _⁺, edge, then}
@@ -15,10 +15,9 @@ use Rattle.protocol.proofs.Chains.{no-circle}
 use Rattle.protocol.proofs.Graphs.{snoc, leads}
 use Rattle.protocol.proofs.Ways.{one-holder, every-way, way-bounded}
 use Rattle.protocol.proofs.Kept.{Kept, valid-kept, prec-differs}
-use Rattle.protocol.proofs.Finite.{size, live-below, taken-below, orderly}
-use Rattle.protocol.proofs.Current.{Orderly, parents, dec-parent, cprec-some, local-cprec, law-cprec}
+use Rattle.protocol.proofs.Finite.{size, live-below, taken-below, valid-orderly}
+use Rattle.protocol.proofs.Current.{Orderly, parents, cprec-some, local-cprec, law-cprec, law-walk}
 use Rattle.protocol.proofs.Runner.{running-unique, running-some}
-use Rattle.protocol.proofs.Walk.{Afresh, walk-on, walk-stop}
 
 -- running s ⊆ ready s ⊆ threads s; the threads are finitely many, and so are the taken resources, so the graph is finite
 
@@ -43,7 +42,7 @@ module _ (s : State) (v : valid s) where
   kept = valid-kept s v
 
   order : Orderly (wq s) (threads s)
-  order = orderly s kept
+  order = valid-orderly s v
 
   -- a thread waits for at most one resource
   pub waits-one : (th : Thread) (cs₁ cs₂ : Resource) → waits s th cs₁ → waits s th cs₂ → cs₁ ≡ cs₂
@@ -105,24 +104,15 @@ module _ (s : State) (v : valid s) where
       (th : Thread) → th ∈ threads s → cprec s th (c th)
   lemma-4-converse = law-cprec order (λ u. prec u s)
 
-  -- The law of the walk. Let the local law hold for the values c everywhere but at x, and let e be c with x worked out afresh,
-  -- be it higher or lower. Then the law holds for e everywhere, or x waits for what some h holds and it holds everywhere but
-  -- at h; and if the value of x stayed the same, everywhere.
+  -- the values c satisfy the local law at th
   abbrev Law : (Thread → Precedence) → Thread → Type 0
   Law c th = local-law (wq s) (λ u. prec u s) c th (c th)
 
+  -- The law of the walk. Let the local law hold for the values c everywhere but at x, and let e be c with x worked out afresh,
+  -- be it higher or lower. Then the law holds for e everywhere, or x waits for what some h holds and it holds everywhere but
+  -- at h; and if the value of x stayed the same, everywhere.
   pub walk : (c e : Thread → Precedence) (x : Thread) → ((th : Thread) → th ∈ threads s → th ≢ x → Law c th) →
       local-law (wq s) (λ u. prec u s) c x (e x) → ((th : Thread) → th ≢ x → e th ≡ c th) →
       (((th : Thread) → th ∈ threads s → Law e th) ⊎ ((h : Thread) × (x ∈ children (wq s) h) × ((th : Thread) → th ∈ threads s → th ≢ h → Law e th)))
       × (e x ≡ c x → (th : Thread) → th ∈ threads s → Law e th)
-  walk c e x but-x there elsewhere = (go (dec-parent order x), walk-stop _≼_ (children (wq s)) (λ u. prec u s) (threads s) c e x but-x afresh)
-    where
-      afresh : Afresh _≼_ (children (wq s)) (λ u. prec u s) c x e
-      afresh = record { there = there; elsewhere = elsewhere }
-
-      on : (th : Thread) → th ∈ threads s → ¬ (x ∈ children (wq s) th) → Law e th
-      on = walk-on _≼_ (children (wq s)) (λ u. prec u s) (threads s) c e x but-x afresh
-
-      go : Dec ((h : Thread) × (x ∈ children (wq s) h)) → ((th : Thread) → th ∈ threads s → Law e th) ⊎ ((h : Thread) × (x ∈ children (wq s) h) × ((th : Thread) → th ∈ threads s → th ≢ h → Law e th))
-      go (yes w) = inr (w .0, w .1, λ th l n. on th l (λ k. n (parents order x th (w .0) k (w .1))))
-      go (no n) = inl (λ th l. on th l (λ k. n (th, k)))
+  walk = law-walk order (λ u. prec u s)

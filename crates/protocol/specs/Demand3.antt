@@ -13,7 +13,7 @@ use Rattle.protocol.specs.Schedule.{holds, waits, cprec, running}
 use Rattle.protocol.specs.Rules.{valid}
 
 -- A moment is a state. `Moment s s′ m`: after the moment s the events s′ happened (the newest first), and m is a moment from
--- s up to now: now, or one before the newest event.
+-- s up to now: now, or one from before the newest event.
 pub data Moment (s : State) : List Event → State → Type 0 where
   now : {s′ : List Event} → Moment s s′ (s′ ++ s)
   before : {e : Event} {s′ : List Event} {m : State} → Moment s s′ m → Moment s (e ∷ s′) m
@@ -22,8 +22,8 @@ pub data Moment (s : State) : List Event → State → Type 0 where
 abbrev pub holds-or-waits : State → Thread → Type 0
 holds-or-waits s th = ((cs : Resource) × holds s th cs) ⊎ ((cs : Resource) × waits s th cs)
 
--- what may happen to th, of priority prio: nobody sets it anew or ends it, and no thread is created with or set to a
--- priority above its own
+-- the event spares th, of priority prio: it neither sets th anew nor ends it, and it creates no thread with, and sets none
+-- to, a priority above prio
 abbrev pub spares : Thread → Priority → Event → Type 0
 spares th prio (Create th′ prio′) = prio′ ≤ prio
 spares th prio (Exit th′) = th′ ≢ th
@@ -46,7 +46,7 @@ First-sentence = (s : State) (th : Thread) (s′ : List Event) → Premises s th
     (th′ : Thread) → th′ ∈ running (s′ ++ s) → th′ ≢ th →
     (th′ ∈ threads s) × ((m : State) → Moment s s′ m → holds-or-waits m th′) × cprec (s′ ++ s) th′ (prec th s)
 
--- Whose call an event is: that of the thread it names. A Create is nobody's call, since anyone may cause it.
+-- Whose call an event is: that of the first thread it names. A Create is nobody's call, since anyone may cause it.
 abbrev pub caller : Event → Option Thread
 caller (Create th prio) = none
 caller (Exit th) = some th
@@ -87,7 +87,7 @@ pub record Number (M : SetOf Thread) (n : ℕ) : Type 0 where
 -- the event that brings this about included, or all so far if that has not come. So the newest event counts if at every
 -- moment before it u held or waited; once u did neither, no further event counts.
 pub data Until (u : Thread) (s : State) : List Event → List Event → Type 0 where
-  at-once : Until u s [] []
+  none-yet : Until u s [] []
   so-far : {e : Event} {s′ : List Event} → ((m : State) → Moment s s′ m → holds-or-waits m u) → Until u s (e ∷ s′) (e ∷ s′)
   over : {e : Event} {s′ es : List Event} {m : State} → Moment s s′ m → ¬ holds-or-waits m u → Until u s s′ es → Until u s (e ∷ s′) es
 
