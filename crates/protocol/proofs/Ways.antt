@@ -53,6 +53,12 @@ module _ (wq : Queues) where
           nowhere (C q) k = k
       go (x ∷ xs) e = (suc (end x .0), on-to-holder {cs = r} {th = x} (rw e (inl refl, refl)) (climb-way (end x .1)))
 
+  -- a way from a thread is a climb
+  pub way-climb : {t k : ℕ} → Way wq (T t) k → Climb (children wq) t k
+  way-climb (ends {a = T t} f) = stop (waits-free t (λ r. f (C r)))
+  way-climb (on-to-resource {th = t} {cs = r} w (ends f)) = let h = in-held (wq r) t (w .0) in absurd (f (T (h .0)) (h .1))
+  way-climb (on-to-resource {cs = r} w (on-to-holder h x)) = hop (r, w, h) (way-climb x)
+
   module _ (one : One-wait wq) where
     pub way-unique : {a : Node} {k l : ℕ} → Way wq a k → Way wq a l → k ≡ l
     way-unique (ends f) (ends g) = refl

@@ -1,0 +1,75 @@
+-- The highest number of a set that grows: by the numbers that are compared next, or by the direct waiters of one resource more.
+-- Assumes nothing.
+use Prim.Native.Nat.{ℕ, _+_, _*_, _≤_, _<_}
+use mathlib.Core.Path.{_≡_, refl}
+use mathlib.Core.Logic.{_⊎_, inl, inr, ⊎-elim, by-cases}
+use mathlib.Core.List.{List}
+use native.Mathlib.Decide.{ℕ-discrete}
+use native.Mathlib.Nat.{le-trans, add-zero}
+use native.Mathlib.Omega.{arith}
+use Rattle.protocol.specs.Sets.{SetOf, _∈_, only, _∪_, Max}
+use Rattle.table.specs.Table.{at}
+use Rattle.table.specs.Parts.{entry, entries-of, Compared, Waiters-numbers}
+
+-- the same set
+pub alike : {M N : SetOf ℕ} {m : ℕ} → ((a : ℕ) → a ∈ M → a ∈ N) → ((a : ℕ) → a ∈ N → a ∈ M) → Max _≤_ M m → Max _≤_ N m
+alike there back p = record { among = there _ (p .among); bound = λ a i. p .bound a (back a i) }
+
+-- M with N, where the numbers of N are compared with the highest of M
+pub joined : {M N : SetOf ℕ} {m h : ℕ} → Max _≤_ M m → Max _≤_ (only m ∪ N) h → Max _≤_ (M ∪ N) h
+joined {m} p q = record {
+  among = ⊎-elim (λ e. inl (rw e (p .among))) inr (q .among);
+  bound = λ a. ⊎-elim (λ i. le-trans (p .bound a i) (q .bound m (inl refl))) (λ i. q .bound a (inr i));
+}
+
+-- one number more
+pub of-two : (m v h : ℕ) → ((m < v) × (h ≡ v)) ⊎ ((v ≤ m) × (h ≡ m)) → Max _≤_ (only m ∪ only v) h
+of-two m v h (inl (l, e)) = record { among = inr e; bound = λ a. ⊎-elim (λ i. omega arith) (λ i. omega arith) }
+of-two m v h (inr (l, e)) = record { among = inl e; bound = λ a. ⊎-elim (λ i. omega arith) (λ i. omega arith) }
+
+-- the waiters at one place more
+module _ (queue current : List ℕ) (r start n : ℕ) where
+  abbrev Upto : ℕ → SetOf ℕ
+  Upto k = only start ∪ Waiters-numbers queue current r k
+
+  abbrev Here : SetOf ℕ
+  Here = only (at current (entry queue r n))
+
+  pub waiter-next : {m h : ℕ} → 1 ≤ n → Max _≤_ (only m ∪ Here) h → Max _≤_ (Upto n) m → Max _≤_ (Upto (n + 1)) h
+  waiter-next f q p = alike there back (joined p q)
+    where
+      there : (a : ℕ) → a ∈ (Upto n ∪ Here) → a ∈ Upto (n + 1)
+      there a (inl (inl e)) = inl e
+      there a (inl (inr (i, l, k, e))) = inr (i, l, omega arith, e)
+      there a (inr e) = inr (n, f, omega arith, e)
+
+      back : (a : ℕ) → a ∈ Upto (n + 1) → a ∈ (Upto n ∪ Here)
+      back a (inl e) = inl (inl e)
+      back a (inr (i, l, k, e)) = by-cases (ℕ-discrete i n) (λ d. inr (rw d at e)) (λ d. inl (inr (i, l, omega arith, e)))
+
+-- the waiters of one resource more
+module _ (queue length current : List ℕ) (own t : ℕ) where
+  abbrev Of-first : ℕ → SetOf ℕ
+  Of-first k = Compared queue length current k own t
+
+  pub compared-none : Max _≤_ (Of-first 0) own
+  compared-none = record { among = inl refl; bound = λ a. ⊎-elim (λ e. omega arith) (λ w. absurd (omega (arith, w .2))) }
+
+  module _ (r : ℕ) where
+    abbrev At : SetOf ℕ
+    At = Waiters-numbers queue current r (entries-of (at length r))
+
+    grown : (a : ℕ) → a ∈ Of-first r → a ∈ Of-first (r + 1)
+    grown a (inl e) = inl e
+    grown a (inr (q, i, l, f, k, h, e)) = inr (q, i, omega arith, f, k, h, e)
+
+    parted : (a : ℕ) → a ∈ Of-first (r + 1) → (a ∈ Of-first r) ⊎ ((entry queue r 0 ≡ t) × a ∈ At)
+    parted a (inl e) = inl (inl e)
+    parted a (inr (q, i, l, f, k, h, e)) = by-cases (ℕ-discrete q r) (λ d. inr (rw d at h, (i, f, rw d at k, rw d at e))) (λ d. inl (inr (q, i, omega arith, f, k, h, e)))
+
+    -- t holds r, and the waiters are compared; or nobody waits for t at r
+    pub compared-next : {m h : ℕ} → ((at queue (r * 32) ≡ t) × Max _≤_ (only m ∪ At) h) ⊎ ((at queue (r * 32) ≡ t → entries-of (at length r) ≤ 1) × (h ≡ m)) → Max _≤_ (Of-first r) m → Max _≤_ (Of-first (r + 1)) h
+    compared-next (inl (e, q)) p =
+        alike (λ a. ⊎-elim (grown a) (λ w. inr (r, w .0, omega arith, w .1, w .2, rw add-zero e, w .3))) (λ a i. ⊎-elim inl (λ w. inr (w .1)) (parted a i)) (joined p q)
+    compared-next (inr (none, e)) p =
+        rw e (alike grown (λ a i. ⊎-elim (λ j. j) (λ w. absurd (omega (arith, none (rw add-zero at (w .0)), w .1 .1, w .1 .2))) (parted a i)) p)

@@ -1,0 +1,78 @@
+-- `table::law::afresh` meets its contract. The loop's invariant: `best` is the highest of what the resources passed compare.
+-- Assumes nothing.
+use Prim.Native.Nat.{ℕ, _≤_, _-_}
+use mathlib.Core.Path.{_≡_}
+use mathlib.Core.Logic.{inl, inr, ⊎-elim}
+use native.Mathlib.Omega.{arith}
+use borrow.Author.Needs.{needs}
+use Rattle.protocol.specs.Sets.{Max}
+use Rattle.table.specs.Table.{at}
+use Rattle.table.specs.Parts.{Compared}
+use Rattle.table.proofs.Maxima.{compared-none, compared-next}
+use Rattle.table.proofs.law.afresh.Statement.{statement}
+use Rattle.table.proofs.law.afresh.Tie as tie
+
+abbrev Inv-loop : tie.InvT-loop
+Inv-loop queue length own current t best₀ r₀ best r =
+    (r ≤ 16) × Max _≤_ (Compared queue length current r own t) best
+
+abbrev μ-loop : tie.MeasureT-loop
+μ-loop queue length own current t best₀ r₀ best r = 16 - r
+
+loop-holds : tie.Need-loop-holds Inv-loop μ-loop
+loop-holds c = (omega arith, compared-none (c .args .queue .now) (c .args .length .now) (c .args .current .now) (c .args .own) (c .args .t))
+
+element-copy-out-entries : tie.Need-element-copy-out-entries Inv-loop μ-loop
+element-copy-out-entries c = search needs
+
+entries-requires : tie.Need-entries-requires Inv-loop μ-loop
+entries-requires c κs = search needs
+
+mul-if2 : tie.Need-mul-if2 Inv-loop μ-loop
+mul-if2 c = omega arith
+
+element-copy-out-if2 : tie.Need-element-copy-out-if2 Inv-loop μ-loop
+element-copy-out-if2 c = omega arith
+
+highest-waiter-requires : tie.Need-highest-waiter-requires Inv-loop μ-loop
+highest-waiter-requires c κs = omega arith
+
+add-r : tie.Need-add-r Inv-loop μ-loop
+add-r c = omega arith
+
+loop-less : tie.Need-loop-less Inv-loop μ-loop
+loop-less c = omega arith
+
+loop-again : tie.Need-loop-again Inv-loop μ-loop
+loop-again c =
+    let h = c .before .before .before .before in
+    let a = h .before .args in
+    let r = h .loop .r in (
+      omega arith,
+      let n = c .before .entries .ensures .0 in
+          compared-next (a .queue .now) (a .length .now) (a .current .now) (a .own) (a .t) r
+          (⊎-elim (λ w. inl (w .2 .taken, rw (w .4) (rw n at (w .3 .ensures)))) (⊎-elim (λ w. inr ((λ e. absurd (w .2 .left e)), w .3)) (λ w. inr ((λ _. omega (arith, w .0 .left, n)), w .1))) (c .if1 .came))
+          (h .loop .inv .1),
+    )
+
+returns : tie.Need-returns Inv-loop μ-loop
+returns c =
+    let e : c .before .loop .r ≡ 16 = omega arith in
+    rw e at (c .before .loop .inv .1)
+
+pub afresh-spec : {M : Type 1} → statement M
+afresh-spec =
+    tie.close
+    (tie.spec
+    Inv-loop
+    μ-loop
+    loop-holds
+    element-copy-out-entries
+    entries-requires
+    mul-if2
+    element-copy-out-if2
+    highest-waiter-requires
+    add-r
+    loop-less
+    loop-again
+    returns)

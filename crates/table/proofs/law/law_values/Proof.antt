@@ -1,0 +1,120 @@
+-- `table::law::law_values` meets its contract. The loop's invariant: `best` has for each thread the highest of what the resources passed
+-- compare. Assumes nothing.
+use Prim.Native.Nat.{ℕ, _+_, _*_, _≤_, _<_, _-_}
+use mathlib.Core.Path.{_≡_, refl, sym, _∙_}
+use mathlib.Core.List.{List}
+use mathlib.Core.Logic.{inl, inr, ⊎-elim, by-cases}
+use native.Mathlib.Decide.{ℕ-discrete}
+use native.Mathlib.Omega.{arith}
+use borrow.Author.Needs.{needs}
+use lib.ListN
+use lib.ListN.{set, length-set}
+use lib.Seq.{getD-set-same, getD-set-other}
+use Rattle.protocol.specs.Sets.{only, _∪_, Max}
+use Rattle.table.specs.Table.{at}
+use Rattle.table.specs.Parts.{entries-of, Compared, Waiters-numbers}
+use Rattle.table.proofs.Maxima.{compared-none, compared-next}
+use Rattle.table.proofs.law.law_values.Statement.{statement}
+use Rattle.table.proofs.law.law_values.Tie as tie
+
+module _ (queue length current own : List ℕ) where
+  -- `best` is right for the first r resources
+  abbrev Right : ℕ → List ℕ → Type 0
+  Right r best = (t : ℕ) → t < 32 → Max _≤_ (Compared queue length current r (at own t) t) (at best t)
+
+  raised : (best : List ℕ) (r h v : ℕ) → ListN.length best ≡ 32 → h < 32 → h ≡ at queue (r * 32) → Max _≤_ (only (at best h) ∪ Waiters-numbers queue current r (entries-of (at length r))) v
+      → Right r best → Right (r + 1) (set best h v)
+  raised best r h v long k e p all t l =
+      compared-next queue length current (at own t) t r
+      (by-cases (ℕ-discrete t h) (λ d. inl (rw d (sym e), rw (d, getD-set-same best h v 0 (omega arith)) p)) (λ d. inr ((λ z. absurd (d (sym z ∙ sym e))), getD-set-other best h t v 0 d)))
+      (all t l)
+
+  passed : (best : List ℕ) (r : ℕ) → ((t : ℕ) → t < 32 → at queue (r * 32) ≡ t → entries-of (at length r) ≤ 1) → Right r best → Right (r + 1) best
+  passed best r none all t l = compared-next queue length current (at own t) t r (inr (none t l, refl)) (all t l)
+
+abbrev Inv-loop : tie.InvT-loop
+Inv-loop queue length current best₀ r₀ best r =
+    (r ≤ 16) × (ListN.length best ≡ 32)
+    × Right queue length current best₀ r best
+
+abbrev μ-loop : tie.MeasureT-loop
+μ-loop queue length current best₀ r₀ best r = 16 - r
+
+loop-holds : tie.Need-loop-holds Inv-loop μ-loop
+loop-holds c = (omega arith, search needs, λ t l. compared-none (c .args .queue .now) (c .args .length .now) (c .args .current .now) (at (c .args .own) t) t)
+
+element-copy-out-entries : tie.Need-element-copy-out-entries Inv-loop μ-loop
+element-copy-out-entries c = search needs
+
+entries-requires : tie.Need-entries-requires Inv-loop μ-loop
+entries-requires c κs = search needs
+
+mul-wide : tie.Need-mul-wide Inv-loop μ-loop
+mul-wide c = omega arith
+
+element-copy-out-wide : tie.Need-element-copy-out-wide Inv-loop μ-loop
+element-copy-out-wide c = omega arith
+
+wide-requires : tie.Need-wide-requires Inv-loop μ-loop
+wide-requires c κs = search needs
+
+mul-highest-waiter : tie.Need-mul-highest-waiter Inv-loop μ-loop
+mul-highest-waiter c = omega arith
+
+array-read-highest-waiter : tie.Need-array-read-highest-waiter Inv-loop μ-loop
+array-read-highest-waiter c = omega arith
+
+highest-waiter-requires : tie.Need-highest-waiter-requires Inv-loop μ-loop
+highest-waiter-requires c κs = omega arith
+
+mul-best : tie.Need-mul-best Inv-loop μ-loop
+mul-best c = omega arith
+
+array-write-best : tie.Need-array-write-best Inv-loop μ-loop
+array-write-best c = omega arith
+
+add-r : tie.Need-add-r Inv-loop μ-loop
+add-r c = omega arith
+
+loop-less : tie.Need-loop-less Inv-loop μ-loop
+loop-less c = omega arith
+
+loop-again : tie.Need-loop-again Inv-loop μ-loop
+loop-again c =
+    let h = c .before .before .before .before in
+    let a = h .before .args in
+    let b = h .loop in
+    let n = c .before .entries .ensures .0 in
+    let raise = raised (a .queue .now) (a .length .now) (a .current .now) (a .own) (b .best) (b .r) in
+    let pass = passed (a .queue .now) (a .length .now) (a .current .now) (a .own) (b .best) (b .r) in
+    ⊎-elim (λ w. (omega arith, rw (w .5, length-set) (b .inv .1), rw (w .5) (raise _ _ (b .inv .1) (w .3 .taken) (w .2 .ensures .0) (rw n at (w .4 .ensures)) (b .inv .2))))
+    (⊎-elim (λ w. (omega arith, rw (w .4) (b .inv .1), rw (w .4) (pass (λ t l e. absurd (omega (arith, w .3 .left, w .2 .ensures .0))) (b .inv .2))))
+    (λ w. (omega arith, rw (w .1) (b .inv .1), rw (w .1) (pass (λ t l e. omega (arith, w .0 .left, n)) (b .inv .2)))))
+    (c .if1 .came)
+
+returns : tie.Need-returns Inv-loop μ-loop
+returns c =
+    let e : c .before .loop .r ≡ 16 = omega arith in
+    rw e at (c .before .loop .inv .2)
+
+pub law-values-spec : {M : Type 1} → statement M
+law-values-spec =
+    tie.close
+    (tie.spec
+    Inv-loop
+    μ-loop
+    loop-holds
+    element-copy-out-entries
+    entries-requires
+    mul-wide
+    element-copy-out-wide
+    wide-requires
+    mul-highest-waiter
+    array-read-highest-waiter
+    highest-waiter-requires
+    mul-best
+    array-write-best
+    add-r
+    loop-less
+    loop-again
+    returns)

@@ -1,0 +1,87 @@
+-- `table::running::running` meets its contract. The loop's invariant: `best` and `high` are the runner among the first `i` threads and its number.
+-- The measure is the number of threads left. Assumes nothing.
+use Prim.Native.Nat.{_≤_, _-_, _+_}
+use native.Mathlib.Numerals.{add-one}
+use native.Mathlib.Omega.{arith}
+use mathlib.Core.Path.{_≡_, _∙_}
+use mathlib.Core.Logic.{⊎-elim}
+use borrow.Author.Needs.{needs}
+use borrow.Author.Tests.{eq-eqb, ne-eqb}
+use Rattle.table.specs.Walks.{runner-number, runner}
+use Rattle.table.proofs.Steps.{runner-takes, runner-keeps}
+use Rattle.table.proofs.running.running.Statement.{statement}
+use Rattle.table.proofs.running.running.Tie as tie
+
+abbrev Inv-loop : tie.InvT-loop
+Inv-loop live waits current best₀ high₀ i₀ best high i = (i ≤ 32) × (high ≡ runner-number live waits current i) × (best ≡ runner live waits current i)
+
+abbrev μ-loop : tie.MeasureT-loop
+μ-loop live waits current best₀ high₀ i₀ best high i = 32 - i
+
+loop-holds : tie.Need-loop-holds Inv-loop μ-loop
+unfolding runner-number runner
+loop-holds c = search needs
+
+cast-k : tie.Need-cast-k Inv-loop μ-loop
+cast-k c = search needs
+
+element-copy-out-if1 : tie.Need-element-copy-out-if1 Inv-loop μ-loop
+element-copy-out-if1 c = search needs
+
+element-copy-out-if2 : tie.Need-element-copy-out-if2 Inv-loop μ-loop
+element-copy-out-if2 c = search needs
+
+mul-if3 : tie.Need-mul-if3 Inv-loop μ-loop
+mul-if3 c = search needs
+
+element-copy-out-if3 : tie.Need-element-copy-out-if3 Inv-loop μ-loop
+element-copy-out-if3 c = search needs
+
+mul-high : tie.Need-mul-high Inv-loop μ-loop
+mul-high c = search needs
+
+element-copy-out-high : tie.Need-element-copy-out-high Inv-loop μ-loop
+element-copy-out-high c = search needs
+
+add-i : tie.Need-add-i Inv-loop μ-loop
+add-i c = search needs
+
+loop-less : tie.Need-loop-less Inv-loop μ-loop
+loop-less c = search needs
+
+loop-again : tie.Need-loop-again Inv-loop μ-loop
+loop-again c =
+    let s = c .before .before .before .loop in
+    let a = c .before .before .before .before .args in
+    let take = runner-takes (a .live .now) (a .waits .now) (a .current .now) (s .i) (s .i + 1) (s .high) (add-one _) (s .inv .1) in
+    let keep = runner-keeps (a .live .now) (a .waits .now) (a .current .now) (s .i) (s .i + 1) (s .high) (add-one _) (s .inv .1) in
+    ⊎-elim (λ w. let k = take (rw (eq-eqb _ _ (w .0 .taken), w .2 .taken, w .4 .taken)) in (omega arith, w .7 ∙ k .0, w .6 ∙ k .1))
+    (λ w.
+    let k = keep (⊎-elim (λ v. rw (eq-eqb _ _ (v .0 .taken), v .2 .taken, v .4 .left))
+    (⊎-elim (λ v. rw (eq-eqb _ _ (v .0 .taken), v .2 .left)) (λ v. rw (ne-eqb _ _ (v .left)))) (w .0 .came)) in
+    (omega arith, w .2 ∙ k .0, w .1 ∙ s .inv .2 ∙ k .1))
+    (c .if1 .came)
+
+returns : tie.Need-returns Inv-loop μ-loop
+returns c =
+    let e : c .before .loop .i ≡ 32 = omega arith in
+    rw e at (c .before .loop .inv .2)
+
+pub running-spec : {M : Type 1} → statement M
+running-spec =
+    tie.close
+    (tie.spec
+    Inv-loop
+    μ-loop
+    loop-holds
+    cast-k
+    element-copy-out-if1
+    element-copy-out-if2
+    mul-if3
+    element-copy-out-if3
+    mul-high
+    element-copy-out-high
+    add-i
+    loop-less
+    loop-again
+    returns)

@@ -1,0 +1,46 @@
+-- Going up the chain of holders, and the highest ready thread, as the code goes about it. Assumes nothing.
+use Prim.Native.Nat.{ℕ, zero, suc, _≤_, _<_}
+use mathlib.Core.Logic.{_≢_}
+use mathlib.Core.Bool.{Bool, false, cond, _&&_}
+use mathlib.Core.List.{List}
+use lib.Dec.{eqb, ltb, leb}
+use lib.ListN.{getD}
+use Rattle.table.specs.Table.{at}
+use Rattle.table.specs.Parts.{entry}
+
+-- From thread t, with n nodes left: where the way from it comes to a thread that is seen or waits for nothing, that thread; 32 if
+-- the nodes run out or there is no such thread or resource. `waits` has what each thread waits for, 16 if nothing.
+unfoldable mutual
+  pub thread-end : ℕ → List ℕ → List ℕ → List ℕ → List Bool → ℕ → ℕ
+  thread-end zero waits queue length seen t = 32
+  thread-end (suc n) waits queue length seen t =
+      cond (leb 32 t) 32 (cond (getD seen t false) t (cond (leb 16 (at waits t)) t (resource-end n waits queue length seen (at waits t))))
+
+  pub resource-end : ℕ → List ℕ → List ℕ → List ℕ → List Bool → ℕ → ℕ
+  resource-end zero waits queue length seen r = 32
+  resource-end (suc n) waits queue length seen r =
+      cond (leb 16 r) 32 (cond (eqb (at length r) 0) 32 (thread-end n waits queue length seen (entry queue r 0)))
+
+-- From thread t, going to the resource it waits for, to its holder and so on, the way ends, and passes k holders.
+pub data Ending (waits queue length : List ℕ) : ℕ → ℕ → Type 0 where
+  here : {t : ℕ} → t < 32 → 16 ≤ at waits t → Ending waits queue length t zero
+  goes-on : {t k : ℕ} → t < 32 → at waits t < 16 → at length (at waits t) ≢ 0 → Ending waits queue length (entry queue (at waits t) 0) k → Ending waits queue length t (suc k)
+
+abbrev pub Ends-from : List ℕ → List ℕ → List ℕ → ℕ → Type 0
+Ends-from waits queue length t = (k : ℕ) × Ending waits queue length t k
+
+-- live, and waiting for nothing
+abbrev pub is-ready : List ℕ → List ℕ → ℕ → Bool
+is-ready live waits th = eqb (at live th) 1 && eqb (at waits th) 16
+
+-- the highest number of the ready threads among the first n; 0 if none is ready
+unfoldable pub runner-number : List ℕ → List ℕ → List ℕ → ℕ → ℕ
+runner-number live waits current zero = 0
+runner-number live waits current (suc n) =
+    let b = runner-number live waits current n in cond (is-ready live waits n && ltb b (at current n)) (at current n) b
+
+-- the first of the highest ready threads among the first n; 32 if none is ready (the number of a live thread is at least 1)
+unfoldable pub runner : List ℕ → List ℕ → List ℕ → ℕ → ℕ
+runner live waits current zero = 32
+runner live waits current (suc n) =
+    cond (is-ready live waits n && ltb (runner-number live waits current n) (at current n)) n (runner live waits current n)

@@ -1,0 +1,115 @@
+// The local law: the highest of a thread's own number and its direct waiters' numbers.
+ghost use mathlib.Core.Path.{_≡_};
+ghost use mathlib.Core.Bool.{true};
+ghost use mathlib.Core.Logic.{_↔_};
+ghost use Prim.Native.Nat.{ℕ, _<_, _≤_};
+ghost use Rattle.protocol.specs.Sets.{only, _∪_, Max};
+ghost use Rattle.table.specs.Table.{at};
+ghost use Rattle.table.specs.Parts.{Waiters-numbers, entries-of, Compared};
+use crate::Table;
+use crate::queues::wide;
+
+// The number of thread x; 0 if there is no such thread. A slice tells the proof its length, an array behind a reference doesn't.
+pub fn value(current: &[u32; Table::THREADS], x: u8) -> u32
+    ensures { λ v. ⌜ v ≡ at (now (current .entry)) x ⌝ }
+{
+    let all: &[u32] = current;
+    let i = x as usize;
+    if all.len() <= i {
+        return 0;
+    }
+    all[i]
+}
+
+// The highest of start and the numbers of the waiters in the first n places of r.
+fn highest_waiter<'a>(
+    queue: &'a [u8; Table::PLACES],
+    current: &'a [u32; Table::THREADS],
+    r: usize,
+    n: usize,
+    start: u32,
+) -> u32
+    requires { ⌜ (r < 16) × (n ≤ 32) ⌝ }
+    ensures { λ h. ⌜ Max _≤_ (only start ∪ Waiters-numbers (now (queue .entry)) (now (current .entry)) r n) h ⌝ }
+{
+    let from = r * Table::THREADS;
+    let mut best = start;
+    let mut i = 1;
+    while i < n {
+        let v = value(current, queue[from + i]);
+        if best < v {
+            best = v;
+        }
+        i += 1;
+    }
+    best
+}
+
+// How many entries a queue of this length has; a length that is not right counts as none.
+fn entries(length: u8) -> usize
+    ensures { λ n. ⌜ (n ≡ entries-of length) × (n ≤ 32) ⌝ }
+{
+    let n = length as usize;
+    if Table::THREADS < n { 0 } else { n }
+}
+
+// What each thread is worth by the law, in one pass over the queues.
+pub fn law_values<'a>(
+    queue: &'a [u8; Table::PLACES],
+    length: &'a [u8; Table::RESOURCES],
+    own: [u32; Table::THREADS],
+    current: &'a [u32; Table::THREADS],
+) -> [u32; Table::THREADS]
+    ensures { λ v. ⌜ ((t : ℕ) → t < 32 → Max _≤_ (Compared (now (queue .entry)) (now (length .entry)) (now (current .entry)) 16 (at own t) t) (at v t)) ⌝ }
+{
+    let mut best = own;
+    let mut r = 0;
+    while r < Table::RESOURCES {
+        let n = entries(length[r]);
+        if 1 < n {
+            let h = wide(queue[r * Table::THREADS]);
+            if h < Table::THREADS {
+                best[h] = highest_waiter(queue, current, r, n, best[h]);
+            }
+        }
+        r += 1;
+    }
+    best
+}
+
+// One thread worked out afresh from its direct waiters.
+pub fn afresh<'a>(
+    queue: &'a [u8; Table::PLACES],
+    length: &'a [u8; Table::RESOURCES],
+    own: u32,
+    current: &'a [u32; Table::THREADS],
+    t: u8,
+) -> u32
+    ensures { λ v. ⌜ Max _≤_ (Compared (now (queue .entry)) (now (length .entry)) (now (current .entry)) 16 own t) v ⌝ }
+{
+    let mut best = own;
+    let mut r = 0;
+    while r < Table::RESOURCES {
+        let n = entries(length[r]);
+        if 1 < n {
+            if queue[r * Table::THREADS] == t {
+                best = highest_waiter(queue, current, r, n, best);
+            }
+        }
+        r += 1;
+    }
+    best
+}
+
+pub fn same<'a>(a: &'a [u32; Table::THREADS], b: &'a [u32; Table::THREADS]) -> bool
+    ensures { λ r. ⌜ (r ≡ true) ↔ ((t : ℕ) → t < 32 → at (now (a .entry)) t ≡ at (now (b .entry)) t) ⌝ }
+{
+    let mut i = 0;
+    while i < Table::THREADS {
+        if a[i] != b[i] {
+            return false;
+        }
+        i += 1;
+    }
+    true
+}

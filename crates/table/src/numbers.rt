@@ -1,0 +1,37 @@
+// Precedences as numbers: a higher precedence is a greater number, and 0 is nobody's.
+ghost use mathlib.Core.Path.{_≡_};
+ghost use Prim.Native.Nat.{ℕ, _<_};
+ghost use Rattle.protocol.specs.Rank.{rank};
+ghost use Rattle.table.specs.Table.{at};
+ghost use Rattle.table.specs.Parts.{slot-number};
+use crate::Table;
+
+pub fn number(priority: u8, time: u16) -> u32
+    ensures { λ r. ⌜ r ≡ rank 65535 (priority, time) ⌝ }
+{
+    (priority as u32) * 65536 + (65535 - time as u32)
+}
+
+// The number of a slot, 0 if it isn't live. That a priority and a time fit their types is said for those who read arrays.
+pub fn slot_number(live: u8, priority: u8, time: u16) -> u32
+    ensures { λ r. ⌜ (r ≡ slot-number live priority time) × (priority < 256) × (time < 65536) ⌝ }
+{
+    if live == 1 { number(priority, time) } else { 0 }
+}
+
+pub fn numbers<'a>(
+    live: &'a [u8; Table::THREADS],
+    priority: &'a [u8; Table::THREADS],
+    time: &'a [u16; Table::THREADS],
+) -> [u32; Table::THREADS]
+    ensures { λ r. ⌜ ((th : ℕ) → th < 32 → at r th ≡ slot-number (at (now (live .entry)) th) (at (now (priority .entry)) th) (at (now (time .entry)) th))
+        × ((th : ℕ) → th < 32 → (at (now (priority .entry)) th < 256) × (at (now (time .entry)) th < 65536)) ⌝ }
+{
+    let mut all = [0u32; Table::THREADS];
+    let mut i = 0;
+    while i < Table::THREADS {
+        all[i] = slot_number(live[i], priority[i], time[i]);
+        i += 1;
+    }
+    all
+}

@@ -1,0 +1,84 @@
+// Going from a thread to the resource it waits for, from a resource to its holder, and so on.
+ghost use mathlib.Core.Path.{_≡_};
+ghost use mathlib.Core.Bool.{true};
+ghost use mathlib.Core.Logic.{_↔_};
+ghost use Prim.Native.Nat.{ℕ, _<_};
+ghost use Rattle.table.specs.Walks.{thread-end, resource-end, Ends-from};
+use crate::Table;
+
+// The thread at which the way from t ends, or the first on it that is seen; 32 if the steps run out.
+pub fn from_thread<'a>(
+    waits: &'a [u8; Table::THREADS],
+    queue: &'a [u8; Table::PLACES],
+    length: &'a [u8; Table::RESOURCES],
+    seen: &'a [bool; Table::THREADS],
+    t: u8,
+    steps: u32,
+) -> u8
+    ensures { λ e. ⌜ e ≡ thread-end steps (now (waits .entry)) (now (queue .entry)) (now (length .entry)) (now (seen .entry)) t ⌝ }
+{
+    if steps == 0 {
+        return Table::NOBODY;
+    }
+    let i = t as usize;
+    if Table::THREADS <= i {
+        return Table::NOBODY;
+    }
+    if seen[i] {
+        return t;
+    }
+    let r = waits[i];
+    if Table::NOTHING <= r {
+        return t;
+    }
+    from_resource(waits, queue, length, seen, r, steps - 1)
+}
+
+// The same from resource r: it goes on at the holder.
+pub fn from_resource<'a>(
+    waits: &'a [u8; Table::THREADS],
+    queue: &'a [u8; Table::PLACES],
+    length: &'a [u8; Table::RESOURCES],
+    seen: &'a [bool; Table::THREADS],
+    r: u8,
+    steps: u32,
+) -> u8
+    ensures { λ e. ⌜ e ≡ resource-end steps (now (waits .entry)) (now (queue .entry)) (now (length .entry)) (now (seen .entry)) r ⌝ }
+{
+    if steps == 0 {
+        return Table::NOBODY;
+    }
+    let i = r as usize;
+    if Table::RESOURCES <= i {
+        return Table::NOBODY;
+    }
+    if length[i] == 0 {
+        return Table::NOBODY;
+    }
+    let h = queue[i * Table::THREADS];
+    from_thread(waits, queue, length, seen, h, steps - 1)
+}
+
+// More nodes than a way without a circle has: it passes each of 32 threads and of 16 resources once at most.
+const NODES: u32 = 64;
+
+// Whether the way from every thread ends. Threads from which it does are marked, so that a later way stops where it meets one.
+pub fn no_circle<'a>(
+    waits: &'a [u8; Table::THREADS],
+    queue: &'a [u8; Table::PLACES],
+    length: &'a [u8; Table::RESOURCES],
+) -> bool
+    ensures { λ b. ⌜ (b ≡ true) ↔ ((th : ℕ) → th < 32 → Ends-from (now (waits .entry)) (now (queue .entry)) (now (length .entry)) th) ⌝ }
+{
+    let mut seen = [false; Table::THREADS];
+    let mut t: u8 = 0;
+    while t < Table::NOBODY {
+        if from_thread(waits, queue, length, &seen, t, NODES) == Table::NOBODY {
+            return false;
+        }
+        let i = t as usize;
+        seen[i] = true;
+        t += 1;
+    }
+    true
+}
