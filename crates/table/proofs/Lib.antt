@@ -14,3 +14,6 @@ pub mod Soundness
 pub mod Runs
 pub mod Verdict
 pub mod Empty
+pub mod Reflect
+pub mod Computed
+pub mod Decided

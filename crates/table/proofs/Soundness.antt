@@ -19,7 +19,7 @@ use Rattle.protocol.proofs.Runner.{running-unique, running-some}
 use Rattle.table.specs.declared.Table.{Table}
 use Rattle.table.specs.Table.{at, live, own, stored, queues, cprec, running}
 use Rattle.table.specs.Sound.{Zero-slot, Queues-right, Sound}
-use Rattle.table.specs.Parts.{Slot-right, Compared, Rows-right}
+use Rattle.table.specs.Parts.{Slot-right, Slots-right, Times-differ, Compared, Rows-right}
 use Rattle.table.proofs.Sums.{beyond}
 use Rattle.table.specs.Checked.{Shape}
 use Rattle.table.proofs.Rows.{live-low, taken-low, in-queue, One-queue, to-rows, rows-right, rows-one-queue}
@@ -29,11 +29,21 @@ use Rattle.table.proofs.Worth.{Numbered, law-numbers, dead-law}
 pub record Passed (t : Table) (owns currents : List ℕ) : Type 0 where
   pub clock : t .clock ≤ 65535
   pub priorities : (th : ℕ) → at (t .priority) th ≤ 255
-  pub slots : (th : ℕ) → th < 32 → Slot-right (t .clock) (at (t .live) th) (at (t .priority) th) (at (t .time) th) (at (t .«current_priority») th) (at (t .«current_time») th)
-  pub times : (x y : ℕ) → x < 32 → y < 32 → at (t .live) x ≡ 1 → at (t .live) y ≡ 1 → at (t .time) x ≡ at (t .time) y → x ≡ y
+  pub slots : Slots-right (t .clock) (t .live) (t .priority) (t .time) (t .«current_priority») (t .«current_time»)
+  pub times : Times-differ (t .live) (t .time)
   pub rows : Rows-right (t .queue) (t .length) (t .live) 16
   pub ends : (th : ℕ) → th < 32 → Ends (children (queues t)) th
   pub law : (th : ℕ) → th < 32 → Max _≤_ (Compared (t .queue) (t .length) currents 16 (at owns th) th) (at currents th)
+
+-- beyond the arrays every slot is zero
+pub zero-beyond : (t : Table) → Shape t → (th : ℕ) → 32 ≤ th → Zero-slot t th
+zero-beyond t shape th h = record {
+  live-zero = beyond (t .live) th (omega arith);
+  priority-zero = beyond (t .priority) th (omega arith);
+  time-zero = beyond (t .time) th (omega arith);
+  current-priority-zero = beyond (t .«current_priority») th (omega arith);
+  current-time-zero = beyond (t .«current_time») th (omega arith);
+}
 
 module _ (t : Table) (shape : Shape t) where
   -- queues that are right, and from whose threads the way ends, are in good order
@@ -100,13 +110,7 @@ module _ (t : Table) (shape : Shape t) where
 
         zero-slot : (th : ℕ) → ¬ (th ∈ live t) → Dec (th < 32) → Zero-slot t th
         zero-slot th n (yes h) = ⊎-elim (λ w. absurd (n (w .0))) (λ w. record { live-zero = w .0; priority-zero = w .1; time-zero = w .2; current-priority-zero = w .3; current-time-zero = w .4 }) (p .slots th h)
-        zero-slot th n (no k) = record {
-          live-zero = beyond (t .live) th (omega arith);
-          priority-zero = beyond (t .priority) th (omega arith);
-          time-zero = beyond (t .time) th (omega arith);
-          current-priority-zero = beyond (t .«current_priority») th (omega arith);
-          current-time-zero = beyond (t .«current_time») th (omega arith);
-        }
+        zero-slot th n (no k) = zero-beyond t shape th (omega arith)
 
     -- what is sound passes
     pub sound-passed : Sound t → Passed t owns currents

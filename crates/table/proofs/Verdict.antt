@@ -1,6 +1,6 @@
 -- The parts of the test make its answer. Assumes nothing.
 use Prim.Native.Nat.{ℕ, _≤_, _<_}
-use mathlib.Core.Path.{_≡_, subst}
+use mathlib.Core.Path.{_≡_, sym, subst, _∙_}
 use mathlib.Core.Bool.{Bool, true, false, false≢true}
 use mathlib.Core.List.{List}
 use mathlib.Core.Logic.{inl, inr, _↔_}
@@ -10,9 +10,9 @@ use Rattle.protocol.specs.Sets.{Max}
 use Rattle.protocol.proofs.Highest.{max-unique}
 use Rattle.table.specs.declared.Table.{Table}
 use Rattle.table.specs.Table.{at, waits}
-use Rattle.table.specs.Parts.{slot-number, Slot-right, Rows-right, Waits-of, Compared}
+use Rattle.table.specs.Parts.{slot-number, Slots-right, Times-differ, Rows-right, Waits-of, Compared}
 use Rattle.table.specs.Walks.{Ends-from}
-use Rattle.table.specs.Checked.{Shape, Waits-for, Checks}
+use Rattle.table.specs.Checked.{Shape, Waits-for, Checked-right}
 use Rattle.table.proofs.Sums.{beyond}
 use Rattle.table.proofs.Rows.{waits-low, rows-lengths, waits-noted, noted-waits, noted-free}
 use Rattle.table.proofs.Worth.{≤-total, Numbered}
@@ -27,9 +27,9 @@ Numbers-of live priority time all =
 module _ (t : Table) (owns currents : List ℕ)
     (own-numbers : Numbers-of (t .live) (t .priority) (t .time) owns)
     (current-numbers : Numbers-of (t .live) (t .«current_priority») (t .«current_time») currents)
-    (w : List ℕ) where
-  numbered : Shape t → Numbered t owns currents
-  numbered shape = record { owns-are = own-numbers .0; currents-are = current-numbers .0; times-fit = λ th. go th (decLt th 32); current-times-fit = λ th. go-current th (decLt th 32) }
+    (w : List ℕ) (shape : Shape t) where
+  numbered : Numbered t owns currents
+  numbered = record { owns-are = own-numbers .0; currents-are = current-numbers .0; times-fit = λ th. go th (decLt th 32); current-times-fit = λ th. go-current th (decLt th 32) }
     where
       go : (th : ℕ) → Dec (th < 32) → at (t .time) th ≤ 65535
       go th (yes h) = omega (arith, own-numbers .1 th h .1)
@@ -40,18 +40,19 @@ module _ (t : Table) (owns currents : List ℕ)
       go-current th (no n) = omega (arith, beyond (t .«current_time») th (omega arith))
 
   -- a part that fails
-  pub fails : (Passed t owns currents → ⊥) → Checks t false w owns currents
-  fails bad shape = record {
-    passed = λ e. absurd (false≢true e);
-    passes = λ s. absurd (bad (sound-passed t shape owns currents (numbered shape) s));
-    waits-right = λ e. absurd (false≢true e);
+  pub fails : (b : Bool) → b ≡ false → (Passed t owns currents → ⊥) → Checked-right t b w owns currents
+  fails b failed bad = record {
+    shape = shape;
+    passed = λ e. absurd (false≢true (sym failed ∙ e));
+    passes = λ s. absurd (bad (sound-passed t shape owns currents numbered s));
+    waits-right = λ e. absurd (false≢true (sym failed ∙ e));
     owns-right = own-numbers .0;
     currents-right = current-numbers .0;
   }
 
   module _ (rows : Rows-right (t .queue) (t .length) (t .live) 16) (of : Waits-of (t .queue) (t .length) 16 w) where
-    waits-for : Shape t → (th : ℕ) → th < 32 → Waits-for t th (at w th)
-    waits-for shape th h = go (decLt (at w th) 16)
+    waits-for : (th : ℕ) → th < 32 → Waits-for t th (at w th)
+    waits-for th h = go (decLt (at w th) 16)
       where
         go : Dec (at w th < 16) → Waits-for t th (at w th)
         go (yes l) = inl (l, noted-waits t shape rows w of th h l)
@@ -60,21 +61,18 @@ module _ (t : Table) (owns currents : List ℕ)
             none : (cs : ℕ) → ¬ waits t th cs
             none cs v = n (omega (arith, waits-noted t shape rows w of th cs v, waits-low t shape (rows-lengths t shape rows) th cs v))
 
-    -- a way that does not end
-    pub stuck : (((th : ℕ) → th < 32 → Ends-from w (t .queue) (t .length) th) → ⊥) → Checks t false w owns currents
-    stuck bad shape = fails (λ p. bad (walk-ends t shape rows w of .1 (p .ends))) shape
-
     -- the last part decides
     pub decides : t .clock < 65536 →
-        ((th : ℕ) → th < 32 → Slot-right (t .clock) (at (t .live) th) (at (t .priority) th) (at (t .time) th) (at (t .«current_priority») th) (at (t .«current_time») th)) →
-        ((x y : ℕ) → x < 32 → y < 32 → at (t .live) x ≡ 1 → at (t .live) y ≡ 1 → at (t .time) x ≡ at (t .time) y → x ≡ y) →
+        Slots-right (t .clock) (t .live) (t .priority) (t .time) (t .«current_priority») (t .«current_time») →
+        Times-differ (t .live) (t .time) →
         ((th : ℕ) → th < 32 → Ends-from w (t .queue) (t .length) th) →
         (v : List ℕ) → ((th : ℕ) → th < 32 → Max _≤_ (Compared (t .queue) (t .length) currents 16 (at owns th) th) (at v th)) →
-        (b : Bool) → (b ≡ true) ↔ ((th : ℕ) → th < 32 → at v th ≡ at currents th) → Checks t b w owns currents
-    decides clock slots times ended v worth b same shape = record {
-      passed = λ e. passed-sound t shape owns currents (numbered shape) (all (same .0 e));
-      passes = λ s. same .1 (λ th h. max-unique _≤_ ≤-total (worth th h) (sound-passed t shape owns currents (numbered shape) s .law th h));
-      waits-right = λ e. waits-for shape;
+        (b : Bool) → (b ≡ true) ↔ ((th : ℕ) → th < 32 → at v th ≡ at currents th) → Checked-right t b w owns currents
+    decides clock slots times ended v worth b same = record {
+      shape = shape;
+      passed = λ e. passed-sound t shape owns currents numbered (all (same .0 e));
+      passes = λ s. same .1 (λ th h. max-unique _≤_ ≤-total (worth th h) (sound-passed t shape owns currents numbered s .law th h));
+      waits-right = λ e. waits-for;
       owns-right = own-numbers .0;
       currents-right = current-numbers .0;
     }

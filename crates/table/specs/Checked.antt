@@ -24,7 +24,7 @@ table-of clock live priority time cp ct queue length = record {
   length = length;
 }
 
--- The arrays have the sizes that their types give them. Of a table by value this is known; of arrays that are lent it is not.
+-- The arrays have the sizes that their types give them.
 pub record Shape (t : Table) : Type 0 where
   pub live-size : length (t .live) ≡ 32
   pub priority-size : length (t .priority) ≡ 32
@@ -39,6 +39,7 @@ abbrev pub Waits-for : Table → Thread → ℕ → Type 0
 Waits-for t th r = ((r < 16) × waits t th r) ⊎ ((r ≡ 16) × ((cs : Resource) → ¬ waits t th cs))
 
 pub record Checked-right (t : Table) (sound : Bool) (waits owns currents : List ℕ) : Type 0 where
+  pub shape : Shape t
   -- the answer is true exactly when the table is sound
   pub passed : sound ≡ true → Sound t
   pub passes : Sound t → sound ≡ true
@@ -47,7 +48,3 @@ pub record Checked-right (t : Table) (sound : Bool) (waits owns currents : List 
   -- the numbers of the own and of the stored current precedences, 0 for slots that aren't live
   pub owns-right : (th : Thread) → th < 32 → at owns th ≡ slot-number (at (t .live) th) (at (t .priority) th) (at (t .time) th)
   pub currents-right : (th : Thread) → th < 32 → at currents th ≡ slot-number (at (t .live) th) (at (t .«current_priority») th) (at (t .«current_time») th)
-
--- the same, said of arrays that are lent
-abbrev pub Checks : Table → Bool → List ℕ → List ℕ → List ℕ → Type 0
-Checks t sound waits owns currents = Shape t → Checked-right t sound waits owns currents

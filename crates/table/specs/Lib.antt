@@ -5,3 +5,4 @@ pub mod Sound
 pub mod Parts
 pub mod Walks
 pub mod Checked
+pub mod Compute

@@ -44,5 +44,5 @@ pub record Sound (t : Table) : Type 0 where
   pub one-wait : (th : Thread) (cs₁ cs₂ : Resource) → waits t th cs₁ → waits t th cs₂ → cs₁ ≡ cs₂
   -- going from a thread to the resource it waits for, from a resource to its holder, and so on, ends from every start
   pub ways-end : (a : Node) → (k : ℕ) × Way (queues t) a k
-  -- each stored current precedence is the defined one
+  -- each stored current precedence is the defined one; for threads that aren't live nothing is claimed but the zeros above
   pub current : (th : Thread) → th ∈ live t → cprec t th (stored t th)

@@ -33,13 +33,13 @@ Ends-from waits queue length t = (k : ℕ) × Ending waits queue length t k
 abbrev pub is-ready : List ℕ → List ℕ → ℕ → Bool
 is-ready live waits th = eqb (at live th) 1 && eqb (at waits th) 16
 
--- the highest number of the ready threads among the first n; 0 if none is ready
+-- the highest number of the ready threads among the first n; 0 if there is none
 unfoldable pub runner-number : List ℕ → List ℕ → List ℕ → ℕ → ℕ
 runner-number live waits current zero = 0
 runner-number live waits current (suc n) =
     let b = runner-number live waits current n in cond (is-ready live waits n && ltb b (at current n)) (at current n) b
 
--- the first of the highest ready threads among the first n; 32 if none is ready (the number of a live thread is at least 1)
+-- the first of the highest ready threads among the first n; 32 if none of them has a number above 0 (in a sound table each live thread has)
 unfoldable pub runner : List ℕ → List ℕ → List ℕ → ℕ → ℕ
 runner live waits current zero = 32
 runner live waits current (suc n) =

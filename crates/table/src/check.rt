@@ -5,7 +5,7 @@ ghost use mathlib.Core.Logic.{_↔_};
 ghost use Prim.Native.Nat.{ℕ, _<_, _≤_};
 ghost use Rattle.table.specs.Table.{at};
 ghost use Rattle.table.specs.Sound.{Sound};
-ghost use Rattle.table.specs.Checked.{table-of, Checks};
+ghost use Rattle.table.specs.Checked.{table-of, Checked-right};
 use crate::Table;
 use crate::law::law_values;
 use crate::law::same;
@@ -15,8 +15,8 @@ use crate::slots::slots_right;
 use crate::slots::times_differ;
 use crate::ways::no_circle;
 
-// sound: the answer. Of a sound table: what each thread waits for (16: nothing), and the numbers of the own and the stored
-// current precedences (0: not live).
+// sound: the answer. waits: of a sound table, what each thread waits for (16: nothing). own, current: of any table, the numbers
+// of the own and the stored current precedences (0: not live).
 pub struct Checked {
     pub sound: bool,
     pub waits: [u8; Table::THREADS],
@@ -34,46 +34,25 @@ pub fn check<'a>(
     queue: &'a [u8; Table::PLACES],
     length: &'a [u8; Table::RESOURCES],
 ) -> Checked
-    ensures { λ c. ⌜ Checks (table-of clock (now (live .entry)) (now (priority .entry)) (now (time .entry)) (now («current_priority» .entry)) (now («current_time» .entry)) (now (queue .entry)) (now (length .entry))) (c .sound) (c .waits) (c .own) (c .current) ⌝ }
+    ensures { λ c. ⌜ Checked-right (table-of clock (now (live .entry)) (now (priority .entry)) (now (time .entry)) (now («current_priority» .entry)) (now («current_time» .entry)) (now (queue .entry)) (now (length .entry))) (c .sound) (c .waits) (c .own) (c .current) ⌝ }
 {
+    // As slices, which tell the proof how long the arrays are.
+    let lives = &live[..];
+    let priorities = &priority[..];
+    let times = &time[..];
+    let current_priorities = &current_priority[..];
+    let current_times = &current_time[..];
+    let places = &queue[..];
+    let lengths = &length[..];
     let own = numbers(live, priority, time);
     let current = numbers(live, current_priority, current_time);
     let rows = survey(queue, length, live);
     let waits = rows.waits;
-    if !rows.right {
-        return Checked {
-            sound: false,
-            waits,
-            own,
-            current,
-        };
-    }
-    if !slots_right(clock, live, priority, time, current_priority, current_time) {
-        return Checked {
-            sound: false,
-            waits,
-            own,
-            current,
-        };
-    }
-    if !times_differ(live, time) {
-        return Checked {
-            sound: false,
-            waits,
-            own,
-            current,
-        };
-    }
-    if !no_circle(&waits, queue, length) {
-        return Checked {
-            sound: false,
-            waits,
-            own,
-            current,
-        };
-    }
-    let worth = law_values(queue, length, own, &current);
-    let sound = same(&worth, &current);
+    let sound = rows.right
+        && slots_right(clock, live, priority, time, current_priority, current_time)
+        && times_differ(live, time)
+        && no_circle(&waits, queue, length)
+        && same(&law_values(queue, length, own, &current), &current);
     Checked {
         sound,
         waits,

@@ -33,12 +33,12 @@ impl Table {
     pub const EVENTS: u16 = 65535;
 
     // The queue places: 32 for each of the 16 resources.
-    pub const PLACES: usize = 512;
+    pub const PLACES: usize = Table::THREADS * Table::RESOURCES;
 
     // What stands for no thread, and for no resource.
-    pub const NOBODY: u8 = 32;
+    pub const NOBODY: u8 = Table::THREADS as u8;
 
-    pub const NOTHING: u8 = 16;
+    pub const NOTHING: u8 = Table::RESOURCES as u8;
 
     pub fn empty() -> Table
         ensures { λ r. ⌜ r ≡ empty ⌝ }

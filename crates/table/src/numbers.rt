@@ -9,7 +9,7 @@ use crate::Table;
 pub fn number(priority: u8, time: u16) -> u32
     ensures { λ r. ⌜ r ≡ rank 65535 (priority, time) ⌝ }
 {
-    (priority as u32) * 65536 + (65535 - time as u32)
+    (priority as u32) * (Table::EVENTS as u32 + 1) + (Table::EVENTS as u32 - time as u32)
 }
 
 // The number of a slot, 0 if it isn't live. That a priority and a time fit their types is said for those who read arrays.

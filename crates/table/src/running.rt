@@ -3,7 +3,8 @@ ghost use mathlib.Core.Path.{_≡_};
 ghost use Rattle.table.specs.Walks.{runner};
 use crate::Table;
 
-// The ready thread of highest number, the first of them; 32 if none is ready.
+// The ready thread of highest number, the first of them; 32 if no ready thread has a number above 0. In a sound table a live
+// thread always has one.
 pub fn running<'a>(
     live: &'a [u8; Table::THREADS],
     waits: &'a [u8; Table::THREADS],

@@ -4,7 +4,7 @@ ghost use mathlib.Core.Bool.{true};
 ghost use mathlib.Core.Logic.{_↔_};
 ghost use Prim.Native.Nat.{ℕ, _<_};
 ghost use Rattle.table.specs.Table.{at};
-ghost use Rattle.table.specs.Parts.{Slot-right, Time-taken};
+ghost use Rattle.table.specs.Parts.{Slot-right, Slots-right, Times-differ, Time-taken};
 use crate::Table;
 
 // A sum of numbers is 0 exactly when all are.
@@ -37,7 +37,7 @@ pub fn slots_right<'a>(
     current_priority: &'a [u8; Table::THREADS],
     current_time: &'a [u16; Table::THREADS],
 ) -> bool
-    ensures { λ r. ⌜ (r ≡ true) ↔ ((th : ℕ) → th < 32 → Slot-right clock (at (now (live .entry)) th) (at (now (priority .entry)) th) (at (now (time .entry)) th) (at (now («current_priority» .entry)) th) (at (now («current_time» .entry)) th)) ⌝ }
+    ensures { λ r. ⌜ (r ≡ true) ↔ Slots-right clock (now (live .entry)) (now (priority .entry)) (now (time .entry)) (now («current_priority» .entry)) (now («current_time» .entry)) ⌝ }
 {
     let mut i = 0;
     while i < Table::THREADS {
@@ -74,7 +74,7 @@ fn time_taken<'a>(live: &'a [u8; Table::THREADS], time: &'a [u16; Table::THREADS
 }
 
 pub fn times_differ<'a>(live: &'a [u8; Table::THREADS], time: &'a [u16; Table::THREADS]) -> bool
-    ensures { λ r. ⌜ (r ≡ true) ↔ ((x y : ℕ) → x < 32 → y < 32 → at (now (live .entry)) x ≡ 1 → at (now (live .entry)) y ≡ 1 → at (now (time .entry)) x ≡ at (now (time .entry)) y → x ≡ y) ⌝ }
+    ensures { λ r. ⌜ (r ≡ true) ↔ Times-differ (now (live .entry)) (now (time .entry)) ⌝ }
 {
     let mut i = 0;
     while i < Table::THREADS {

@@ -1,14 +1,32 @@
 -- `table::check::check` meets its contract: each part that fails refutes what a sound table passes. Assumes nothing.
-use mathlib.Core.Path.{sym, _∙_}
-use mathlib.Core.Bool.{false≢true}
+use Prim.Native.Nat.{ℕ, _<_}
+use mathlib.Core.Path.{_≡_, sym, _∙_}
+use mathlib.Core.Bool.{true, false≢true}
+use mathlib.Core.Logic.{_↔_, ⊎-elim}
 use native.Mathlib.Omega.{arith}
 use borrow.Author.Needs.{needs}
-use borrow.Author.Tests.{not-true, not-false}
-use Rattle.table.proofs.Verdict.{fails, stuck, decides}
+use Rattle.table.proofs.Verdict.{fails, decides}
+use Rattle.table.proofs.Climbs.{walk-ends}
+use Rattle.table.specs.Parts.{Slots-right, Times-differ}
+use Rattle.table.specs.Walks.{Ends-from}
+use Rattle.table.specs.Checked.{table-of, Shape}
 use Rattle.table.proofs.check.check.Statement.{statement}
 use Rattle.table.proofs.check.check.Tie as tie
-use Rattle.table.proofs.check.check.Reads as reads
-use Rattle.table.proofs.check.check.Lts as lts
+
+abbrev start : tie.After-lengths → tie.Start
+start c = c .before .before .before .before .before .before .before
+
+-- the sizes of the arrays, as their slices give them
+shape : (c : tie.After-lengths) → Shape (table-of (start c .args .clock) (start c .args .live .now) (start c .args .priority .now) (start c .args .time .now) (start c .args .current-priority .now) (start c .args .current-time .now) (start c .args .queue .now) (start c .args .length .now))
+shape c = record {
+  live-size = c .before .before .before .before .before .before .lives .given .0;
+  priority-size = c .before .before .before .before .before .priorities .given .0;
+  time-size = c .before .before .before .before .times .given .0;
+  current-priority-size = c .before .before .before .current-priorities .given .0;
+  current-time-size = c .before .before .current-times .given .0;
+  queue-size = c .before .places .given .0;
+  length-size = c .lengths .given .0;
+}
 
 numbers-requires : tie.Need-numbers-requires
 numbers-requires c κs = search needs
@@ -19,36 +37,14 @@ numbers-requires-2 c κs = search needs
 survey-requires : tie.Need-survey-requires
 survey-requires c κs = search needs
 
-returns : tie.Need-returns
-returns c =
-    let s = c .before .before .before in
-    fails _ _ _ (s .before .before .numbers .ensures) (s .before .numbers2 .ensures) _ (λ p. false≢true (sym (not-true _ (c .if1 .taken)) ∙ s .survey .ensures .1 (p .rows)))
-
 slots-right-requires : tie.Need-slots-right-requires
 slots-right-requires c κs = search needs
-
-returns-2 : tie.Need-returns-2
-returns-2 c =
-    let s = c .before .before .before .before .before in
-    fails _ _ _ (s .before .before .numbers .ensures) (s .before .numbers2 .ensures) _ (λ p. false≢true (sym (not-true _ (c .if2 .taken)) ∙ c .before .slots-right .ensures .1 (p .slots)))
 
 times-differ-requires : tie.Need-times-differ-requires
 times-differ-requires c κs = search needs
 
-returns-3 : tie.Need-returns-3
-returns-3 c =
-    let s = c .before .before .before .before .before .before .before in
-    fails _ _ _ (s .before .before .numbers .ensures) (s .before .numbers2 .ensures) _ (λ p. false≢true (sym (not-true _ (c .if3 .taken)) ∙ c .before .times-differ .ensures .1 (p .times)))
-
 no-circle-requires : tie.Need-no-circle-requires
 no-circle-requires c κs = search needs
-
-returns-4 : tie.Need-returns-4
-returns-4 c =
-    let e = c .before .before .before .before .before .before .before in
-    let s = e .before .before .before in
-    let rows = s .survey .ensures .0 (not-false _ (e .if1 .left)) in
-    stuck _ _ _ (s .before .before .numbers .ensures) (s .before .numbers2 .ensures) _ (rows .0) (rows .1) (λ f. false≢true (sym (not-true _ (c .if4 .taken)) ∙ c .before .no-circle .ensures .1 f))
 
 law-values-requires : tie.Need-law-values-requires
 law-values-requires c κs = search needs
@@ -56,20 +52,51 @@ law-values-requires c κs = search needs
 same-requires : tie.Need-same-requires
 same-requires c κs = search needs
 
-returns-5 : tie.Need-returns-5
-returns-5 c =
-    let e = c .before .before .before .before .before .before .before .before .before .before .before .before in
-    let s = e .before .before .before in
-    let rows = s .survey .ensures .0 (not-false _ (e .if1 .left)) in
-    let circle = c .before .before .before .before .before .before in
-    let times = c .before .before .before .before .before .before .before .before .before in
-    let slots = c .before .before .before .before .before .before .before .before .before .before .before in
-    decides _ _ _ (s .before .before .numbers .ensures) (s .before .numbers2 .ensures) _ (rows .0) (rows .1)
-    (omega (arith, s .before .before .before .fits .clock))
-    (slots .slots-right .ensures .0 (not-false _ (c .before .before .before .before .before .before .before .before .before .before .if2 .left)))
-    (times .times-differ .ensures .0 (not-false _ (c .before .before .before .before .before .before .before .before .if3 .left)))
-    (circle .no-circle .ensures .0 (not-false _ (c .before .before .before .before .before .if4 .left)))
-    (c .before .before .before .law-values .result) (c .before .before .before .law-values .ensures) _ (c .same .ensures)
+-- the arguments, as the tests see them
+abbrev args : tie.After-waits → tie.After-lengths
+args c = c .before .before .before .before
+
+-- a chain of tests is true exactly where each is
+slots : (c : tie.Joined1) → let a = start (args (c .before)) .args in
+    (c .if1 .if2 ≡ true) ↔ ((c .before .before .survey .result .right ≡ true) × Slots-right (a .clock) (a .live .now) (a .priority .now) (a .time .now) (a .current-priority .now) (a .current-time .now))
+slots c = (
+  λ e. ⊎-elim (λ w. (w .0 .taken, w .1 .ensures .0 (sym (w .2) ∙ e))) (λ w. absurd (false≢true (sym (w .0 .left) ∙ sym (w .1) ∙ e))) (c .if1 .came),
+  λ p. ⊎-elim (λ w. w .2 ∙ w .1 .ensures .1 (p .1)) (λ w. absurd (false≢true (sym (w .0 .left) ∙ p .0))) (c .if1 .came),
+)
+
+times : (c : tie.Joined2) → let a = start (args (c .before .before)) .args in
+    (c .if2 .if3 ≡ true) ↔ ((c .before .if1 .if2 ≡ true) × Times-differ (a .live .now) (a .time .now))
+times c = (
+  λ e. ⊎-elim (λ w. (w .0 .taken, w .1 .ensures .0 (sym (w .2) ∙ e))) (λ w. absurd (false≢true (sym (w .0 .left) ∙ sym (w .1) ∙ e))) (c .if2 .came),
+  λ p. ⊎-elim (λ w. w .2 ∙ w .1 .ensures .1 (p .1)) (λ w. absurd (false≢true (sym (w .0 .left) ∙ p .0))) (c .if2 .came),
+)
+
+ways : (c : tie.Joined3) → let a = start (args (c .before .before .before)) .args in
+    (c .if3 .if4 ≡ true) ↔ ((c .before .if2 .if3 ≡ true) × ((th : ℕ) → th < 32 → Ends-from (c .before .before .before .before .survey .result .waits) (a .queue .now) (a .length .now) th))
+ways c = (
+  λ e. ⊎-elim (λ w. (w .0 .taken, w .2 .ensures .0 (sym (w .3) ∙ e))) (λ w. absurd (false≢true (sym (w .0 .left) ∙ sym (w .1) ∙ e))) (c .if3 .came),
+  λ p. ⊎-elim (λ w. w .3 ∙ w .2 .ensures .1 (p .1)) (λ w. absurd (false≢true (sym (w .0 .left) ∙ p .0))) (c .if3 .came),
+)
+
+returns : tie.Need-returns
+returns c =
+    let j = c .before .before .before .before .before .before in
+    let s = j .before .before .before .before in
+    let w = ways j .0 (c .before .before .before .before .before .if4 .taken) in
+    let t = times (j .before) .0 (w .0) in
+    let l = slots (j .before .before) .0 (t .0) in
+    let rows = s .survey .ensures .0 (l .0) in
+    let v = c .before .before .before .law-values in
+    decides _ _ _ (s .before .before .numbers .ensures) (s .before .numbers2 .ensures) _ (shape (s .before .before .before)) (rows .0) (rows .1)
+    (omega (arith, start (s .before .before .before) .fits .clock)) (l .1) (t .1) (w .1) (v .result) (v .ensures) _ (c .same .ensures)
+
+returns-2 : tie.Need-returns-2
+returns-2 c =
+    let s = c .before .before .before .before .before in
+    fails _ _ _ (s .before .before .numbers .ensures) (s .before .numbers2 .ensures) _ (shape (s .before .before .before)) _ (c .if4 .left)
+    (λ p. let right = s .survey .ensures .1 (p .rows) in
+    let rows = s .survey .ensures .0 right in
+    false≢true (sym (c .if4 .left) ∙ ways (c .before) .1 (times (c .before .before) .1 (slots (c .before .before .before) .1 (right, p .slots), p .times), walk-ends _ (shape (s .before .before .before)) (rows .0) _ (rows .1) .1 (p .ends))))
 
 pub check-spec : {M : Type 1} → statement M
 check-spec =
@@ -78,13 +105,10 @@ check-spec =
     numbers-requires
     numbers-requires-2
     survey-requires
-    returns
     slots-right-requires
-    returns-2
     times-differ-requires
-    returns-3
     no-circle-requires
-    returns-4
     law-values-requires
     same-requires
-    returns-5)
+    returns
+    returns-2)
