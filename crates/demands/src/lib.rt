@@ -1,0 +1,1 @@
+// The demands as theorems: see proofs/. There is no function here.

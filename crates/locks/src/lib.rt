@@ -1,0 +1,25 @@
+// The calls: the by-value step and the three queries. See specs/ for what each answers.
+use table::Table;
+
+// An event record: four bytes.
+#[repr(C)]
+pub struct Record {
+    pub kind: u8,
+    pub thread: u8,
+    pub argument: u8,
+    pub zero: u8,
+}
+
+// The answer to an event: the number, the running thread of the table afterwards, and the count of re-evaluations.
+#[repr(C)]
+pub struct Answer {
+    pub number: u8,
+    pub running: u8,
+    pub count: u8,
+}
+
+// The answer, and the table afterwards.
+pub struct Done {
+    pub answer: Answer,
+    pub table: Table,
+}
