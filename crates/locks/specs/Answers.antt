@@ -1,6 +1,6 @@
 -- Document 01: the answer to a record. Assumes nothing.
 use Prim.Native.Nat.{ℕ}
-use mathlib.Core.Bool.{Bool, true, false, cond}
+use mathlib.Core.Bool.{cond}
 use lib.Dec.{eqb}
 use Rattle.table.specs.declared.Table.{Table}
 use Rattle.table.specs.Table.{queues}

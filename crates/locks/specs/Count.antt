@@ -1,12 +1,11 @@
 -- Document 01, "The count of re-evaluations". Assumes nothing.
 use Prim.Native.Nat.{ℕ, zero, suc, _+_}
-use mathlib.Core.Bool.{Bool, true, false, cond, _||_}
+use mathlib.Core.Bool.{cond, _||_}
 use mathlib.Core.List.{List, [], _∷_}
 use lib.Dec.{eqb}
 use Rattle.protocol.specs.Events.{Thread, Resource}
 use Rattle.table.specs.declared.Table.{Table}
-use Rattle.table.specs.Table.{queues}
-use Rattle.table.specs.Compute.{holder, waits-for, blocker, current, same}
+use Rattle.table.specs.Compute.{waits-for, blocker, current, same}
 
 -- The walk, from th up from holder to holder, with n threads left: it stops at the first thread whose current precedence
 -- stays the same, that thread included, or after a thread that waits for nothing.

@@ -1,10 +1,9 @@
 -- Document 01, "Accepted events": the table after each. Assumes nothing.
 use Prim.Native.Nat.{ℕ, zero, suc, _+_, _*_, _-_}
-use mathlib.Core.Bool.{Bool, true, false, cond, _&&_}
+use mathlib.Core.Bool.{cond}
 use mathlib.Core.Option.{Option, none, some}
 use mathlib.Core.List.{List, [], _∷_, _++_}
 use lib.ListN.{length, take, drop, set, replicate}
-use lib.Dec.{eqb}
 use Rattle.protocol.specs.Events.{Thread, Priority, Resource}
 use Rattle.protocol.specs.Schedule.{release}
 use Rattle.table.specs.declared.Table.{Table}

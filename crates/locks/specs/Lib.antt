@@ -3,3 +3,10 @@ pub mod Events
 pub mod Count
 pub mod Refusals
 pub mod Answers
+pub mod Queries
+-- How the code goes about it.
+pub mod Refusing
+pub mod Climb
+pub mod Work
+pub mod Heir
+pub mod Afresh

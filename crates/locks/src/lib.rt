@@ -1,4 +1,14 @@
 // The calls: the by-value step and the three queries. See specs/ for what each answers.
+mod climb;
+mod finish;
+pub mod queries;
+mod refusal;
+mod release;
+mod request;
+mod slots;
+pub mod step;
+mod work;
+
 use table::Table;
 
 // An event record: four bytes.
@@ -8,6 +18,19 @@ pub struct Record {
     pub thread: u8,
     pub argument: u8,
     pub zero: u8,
+}
+
+// The kinds of event.
+impl Record {
+    pub const CREATE: u8 = 1;
+
+    pub const EXIT: u8 = 2;
+
+    pub const SET: u8 = 3;
+
+    pub const P: u8 = 4;
+
+    pub const V: u8 = 5;
 }
 
 // The answer to an event: the number, the running thread of the table afterwards, and the count of re-evaluations.

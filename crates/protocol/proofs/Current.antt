@@ -11,7 +11,7 @@ use Rattle.protocol.specs.Children.{children, local-law}
 use Rattle.protocol.proofs.Decide.{dec-some}
 use Rattle.protocol.proofs.Order.{≼-total}
 use Rattle.protocol.proofs.Highest.{max-unique, max-map, max-below}
-use Rattle.protocol.proofs.Chains.{Depends, direct, through, Reach, One-parent, first-hop, dec-reach}
+use Rattle.protocol.proofs.Chains.{Depends, direct, through, Reach, One-parent, first-hop, hop-reach, dec-reach}
 use Rattle.protocol.proofs.Graphs.{leads, depends-way}
 use Rattle.protocol.proofs.Lists.{dec-in, dec-hd, in-held}
 use Rattle.protocol.proofs.Ways.{one-parent, climb-way, way-bounded}
@@ -110,9 +110,14 @@ module _ {wq : Queues} {live : SetOf ℕ} (o : Orderly wq live) where
         from a (inl e) = inl e
         from a (inr (u, i, c)) = inr (u, i, cprec-is-now u a c)
 
-    -- and its converse: the local law fixes the values of the live threads
+    -- and its converse: the local law at a thread and its dependants fixes the thread's value
+    pub law-behind : (c : ℕ → Precedence) (x : ℕ) → ((t : ℕ) → Reach (children wq) t x → local-law wq own c t (c t)) → cprec wq own x (c x)
+    law-behind c x law = current-cprec wq own x (c x) (local-is-current _≼_ ≼-total (children wq) own parents (o .forest .ends) (o .limit) short
+        (λ t. Reach (children wq) t x) (λ u t r k. inr (hop-reach (children wq) k r)) c law x (inl refl))
+
+    -- so at all live threads it fixes all their values
     pub law-cprec : (c : ℕ → Precedence) → ((t : ℕ) → t ∈ live → local-law wq own c t (c t)) → (t : ℕ) → t ∈ live → cprec wq own t (c t)
-    law-cprec c law t l = current-cprec wq own t (c t) (local-is-current _≼_ ≼-total (children wq) own parents (o .forest .ends) (o .limit) short live child-live c law t l)
+    law-cprec c law t l = law-behind c t (λ u. ⊎-elim (λ e. law u (rw e l)) (λ d. law u (dependant-live d)))
 
     -- the law of the walk
     pub law-walk : (c e : ℕ → Precedence) (x : ℕ) → ((t : ℕ) → t ∈ live → t ≢ x → local-law wq own c t (c t)) →

@@ -53,16 +53,17 @@ module _ {A : Type 0} (at-most : A → A → Type 0) (total : Total at-most) (ch
         from (u, d, e) = let w = under u d in
             inr (w .0, w .1, total .antisymmetric x (c (w .0)) (rw e (w .2)) (over (c (w .0)) (inr (w .0, w .1, refl))))
 
-  -- Lemma 4's converse: where no chain closes, whatever satisfies the local law at every live thread is the current value.
+  -- Lemma 4's converse: where no chain closes, whatever satisfies the local law in a set that has all the children of its members is the
+  -- current value there.
   module _ (one-parent : One-parent children) (ends : (t : ℕ) → Ends children t) (N : ℕ) (short : (t : ℕ) → ends t .0 ≤ N)
-      (live : SetOf ℕ) (child-live : (u t : ℕ) → u ∈ children t → u ∈ live) where
+      (S : SetOf ℕ) (closed : (u t : ℕ) → t ∈ S → u ∈ children t → u ∈ S) where
     pub deeper : (u t : ℕ) → u ∈ children t → ends t .0 < ends u .0
     deeper u t k = omega (arith, climb-unique children one-parent (ends u .1) (hop k (ends t .1)))
 
-    pub local-is-current : (c : ℕ → A) → ((t : ℕ) → t ∈ live → Local at-most children own c t (c t)) →
-        (t : ℕ) → t ∈ live → Current at-most children own t (c t)
+    pub local-is-current : (c : ℕ → A) → ((t : ℕ) → t ∈ S → Local at-most children own c t (c t)) →
+        (t : ℕ) → t ∈ S → Current at-most children own t (c t)
     local-is-current c law t l = go N t (omega arith) l
       where
-        go : (n t : ℕ) → N ≤ ends t .0 + n → t ∈ live → Current at-most children own t (c t)
+        go : (n t : ℕ) → N ≤ ends t .0 + n → t ∈ S → Current at-most children own t (c t)
         go zero t h l = local-current c t (λ u k. absurd (omega (arith, deeper u t k, short u))) (c t) (law t l)
-        go (suc n) t h l = local-current c t (λ u k. go n u (omega (arith, deeper u t k)) (child-live u t k)) (c t) (law t l)
+        go (suc n) t h l = local-current c t (λ u k. go n u (omega (arith, deeper u t k)) (closed u t l k)) (c t) (law t l)

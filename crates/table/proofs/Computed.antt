@@ -1,24 +1,23 @@
 -- What computes over a table is what document 01 defines, in a table that is in good order. Assumes nothing.
-use Prim.Native.Nat.{ℕ, zero, suc, _+_, _≤_, _<_}
+use Prim.Native.Nat.{ℕ, zero, suc, _≤_, _<_}
 use mathlib.Core.Path.{_≡_, refl, sym, ap, subst, _∙_}
 use mathlib.Core.Bool.{Bool, true, false, cond, _&&_, _||_, false≢true}
 use mathlib.Core.List.{List, [], _∷_}
-use mathlib.Core.Logic.{_≢_, _⊎_, inl, inr, ⊎-elim, _↔_}
-use native.Mathlib.Decide.{ℕ-discrete, decLt}
+use mathlib.Core.Logic.{_≢_, _⊎_, inl, inr, ⊎-elim}
 use native.Mathlib.Omega.{arith}
 use lib.Dec.{eqb, ltb}
-use Rattle.protocol.specs.Sets.{SetOf, _∈_, only, _∪_, image, images, set, hd, Max}
+use Rattle.protocol.specs.Sets.{SetOf, _∈_, only, _∪_, image, set, hd, Max}
 use Rattle.protocol.specs.Events.{Precedence, higher, _≼_}
 use Rattle.protocol.specs.Children.{children}
 use Rattle.protocol.proofs.Decide.{below-suc}
 use Rattle.protocol.proofs.Order.{≼-total, compare}
 use Rattle.protocol.proofs.Highest.{max-unique, max-map}
-use Rattle.protocol.proofs.Chains.{Depends, direct, through, Free, Climb, stop, hop, Ends, first-hop, hop-reach, Reach}
+use Rattle.protocol.proofs.Chains.{Depends, Free, Climb, stop, hop, first-hop, hop-reach, Reach}
 use Rattle.protocol.proofs.Ways.{waits-free, climb-way, way-bounded}
 use Rattle.protocol.proofs.Lists.{in-held}
 use Rattle.protocol.proofs.Current.{Orderly, parents, parent-live, dependant-live, current-cprec}
 use Rattle.table.specs.declared.Table.{Table}
-use Rattle.table.specs.Table.{at, live, own, queues, holds, waits, cprec, ready, running, Runner}
+use Rattle.table.specs.Table.{at, live, own, queues, holds, waits, cprec, ready, Runner}
 use Rattle.table.specs.Compute.{find-below, first-or-32, is-live, holder, is-waiting, waits-for, blocker, depends, is-higher, highest-behind, current, is-ready, leader, runner, ends}
 use Rattle.table.proofs.Rows.{One-queue}
 use Rattle.table.proofs.Reflect.{Tells, tells-eq, tells-lt, tells-both, tells-either, tells-not, tells-member, tells-higher}

@@ -1,12 +1,11 @@
 -- The test of specs/Compute.antt tells whether a table is sound, rule by rule. Assumes nothing.
 use Prim.Native.Nat.{ℕ, zero, suc, _+_, _*_, _≤_, _<_}
-use mathlib.Core.Path.{_≡_, refl, sym, ap, subst, _∙_, Σ-path}
-use mathlib.Core.Bool.{Bool, true, false, _||_, false≢true}
-use mathlib.Core.List.{List}
-use mathlib.Core.Logic.{_≢_, _⊎_, inl, inr, ⊎-elim, _↔_}
-use native.Mathlib.Decide.{ℕ-discrete, decLt}
+use mathlib.Core.Path.{_≡_, sym, ap, _∙_, Σ-path}
+use mathlib.Core.Bool.{Bool, true, false≢true}
+use mathlib.Core.Logic.{_≢_, _⊎_, inl, inr, ⊎-elim}
+use native.Mathlib.Decide.{decLt}
 use native.Mathlib.Omega.{arith}
-use lib.Dec.{eqb, leb}
+use lib.Dec.{leb}
 use lib.ListN.{length}
 use Rattle.protocol.specs.Sets.{_∈_, set, distinct}
 use Rattle.protocol.specs.Events.{Precedence, _≼_}
@@ -14,13 +13,13 @@ use Rattle.protocol.specs.Children.{children}
 use Rattle.protocol.proofs.Order.{≼-total}
 use Rattle.protocol.proofs.Highest.{max-unique}
 use Rattle.protocol.proofs.Chains.{Free, Climb, stop, hop, Ends}
-use Rattle.protocol.proofs.Ways.{every-way, free-waits}
+use Rattle.protocol.proofs.Ways.{every-way}
 use Rattle.protocol.proofs.Current.{Orderly}
 use Rattle.table.specs.declared.Table.{Table}
-use Rattle.table.specs.Table.{at, live, own, stored, queues, waits, cprec}
+use Rattle.table.specs.Table.{at, live, own, stored, queues, waits}
 use Rattle.table.specs.Sound.{Zero-slot, Sound, Queues-right}
 use Rattle.table.specs.Checked.{Shape}
-use Rattle.table.specs.Compute.{is-live, is-waiting, waits-for, blocker, same, current, ends, dead-zero, spare-zero, time-right, queue-right, waits-once, current-right, is-sound}
+use Rattle.table.specs.Compute.{is-live, waits-for, blocker, current, ends, dead-zero, spare-zero, time-right, queue-right, waits-once, current-right, is-sound}
 use Rattle.table.proofs.Sums.{beyond}
 use Rattle.table.proofs.Rows.{live-low, taken-low, in-queue, One-queue}
 use Rattle.table.proofs.Soundness.{zero-beyond, rows-orderly, sound-orderly}

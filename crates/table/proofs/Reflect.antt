@@ -1,7 +1,7 @@
 -- A test that computes, and what it tells. Assumes nothing.
 use Prim.Native.Nat.{ℕ, zero, suc, _≤_, _<_}
-use mathlib.Core.Path.{_≡_, refl, sym, subst, _∙_, Σ-path, ap}
-use mathlib.Core.Bool.{Bool, true, false, cond, not, _&&_, _||_, false≢true}
+use mathlib.Core.Path.{_≡_, refl, sym, Σ-path, ap}
+use mathlib.Core.Bool.{Bool, true, false, not, _&&_, _||_, false≢true}
 use mathlib.Core.List.{List, [], _∷_}
 use mathlib.Core.Logic.{_⊎_, inl, inr, ⊎-elim, _↔_}
 use native.Mathlib.Omega.{arith}
@@ -15,6 +15,16 @@ use Rattle.table.specs.Compute.{all-below, each, member, differ, is-high
 -- the test passes exactly when A holds
 abbrev pub Tells : Bool → Type 0 → Type 0
 Tells b A = (b ≡ true) ↔ A
+
+-- two tests of the same are the same
+pub same-test : {a b : Bool} {A : Type 0} → Tells a A → Tells b A → a ≡ b
+same-test {a} {b} {A} p q = go a b p q
+  where
+    go : (a b : Bool) → Tells a A → Tells b A → a ≡ b
+    go true true p q = refl
+    go true false p q = sym (q .1 (p .0 refl))
+    go false true p q = p .1 (q .0 refl)
+    go false false p q = refl
 
 pub tells-eq : (a b : ℕ) → Tells (eqb a b) (a ≡ b)
 tells-eq a b = (eqb-true a b, eq-eqb a b)

@@ -62,7 +62,8 @@ pub fn from_resource<'a>(
 // More nodes than a way without a circle has: it passes each of 32 threads and of 16 resources once at most.
 const NODES: u32 = 64;
 
-// Whether the way from every thread ends. Threads from which it does are marked, so that a later way stops where it meets one.
+// Whether the way from every thread ends. Only threads that wait are walked from, starting at what they wait for: the way from
+// others ends at once. Threads that wait and from which it ends are marked, so that a later way stops where it meets one.
 pub fn no_circle<'a>(
     waits: &'a [u8; Table::THREADS],
     queue: &'a [u8; Table::PLACES],
@@ -73,11 +74,14 @@ pub fn no_circle<'a>(
     let mut seen = [false; Table::THREADS];
     let mut t: u8 = 0;
     while t < Table::NOBODY {
-        if from_thread(waits, queue, length, &seen, t, NODES) == Table::NOBODY {
-            return false;
-        }
         let i = t as usize;
-        seen[i] = true;
+        let r = waits[i];
+        if r < Table::NOTHING {
+            if from_resource(waits, queue, length, &seen, r, NODES) == Table::NOBODY {
+                return false;
+            }
+            seen[i] = true;
+        }
         t += 1;
     }
     true

@@ -1,6 +1,6 @@
 -- `table::law::afresh` meets its contract. The loop's invariant: `best` is the highest of what the resources passed compare.
 -- Assumes nothing.
-use Prim.Native.Nat.{ℕ, _≤_, _-_}
+use Prim.Native.Nat.{_≤_, _-_}
 use mathlib.Core.Path.{_≡_}
 use mathlib.Core.Logic.{inl, inr, ⊎-elim}
 use native.Mathlib.Omega.{arith}

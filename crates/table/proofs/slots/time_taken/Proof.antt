@@ -1,32 +1,60 @@
--- `table::slots::time_taken` meets its contract. The loop's invariant: `taken` says whether one of the threads passed has the time of i.
+-- `table::slots::time_taken` meets its contract. The loop's invariant: `Counted`, what the count tells of the threads passed.
 -- Assumes nothing.
-use Prim.Native.Nat.{ℕ, _+_, _≤_, _-_}
-use mathlib.Core.Path.{_≡_, sym, _∙_}
-use mathlib.Core.Bool.{true, false≢true}
+use Prim.Native.Nat.{ℕ, _+_, _≤_, _<_, _-_}
+use mathlib.Core.Path.{_≡_, refl}
 use mathlib.Core.Logic.{_↔_, _≢_, ⊎-elim}
 use mathlib.Core.List.{List}
+use native.Mathlib.Decide.{ℕ-discrete}
 use native.Mathlib.Omega.{arith}
 use borrow.Author.Needs.{needs}
-use borrow.Author.Tests.{eqb-true, eqb-false, not-true, not-false}
+use borrow.Author.Tests.{lt-ltb, ltb-true}
 use Rattle.table.specs.Table.{at}
 use Rattle.table.specs.Parts.{Time-taken}
 use Rattle.table.proofs.slots.time_taken.Statement.{statement}
 use Rattle.table.proofs.slots.time_taken.Tie as tie
 
-module _ (live time : List ℕ) (i j : ℕ) where
+-- n above 0, or above 1 once i is passed, says that another of the first j threads has the time of i
+abbrev Counted : List ℕ → List ℕ → ℕ → ℕ → ℕ → Type 0
+Counted live time i n j =
+    (n ≤ j) × (j ≤ i → (0 < n) ↔ Time-taken live time j i) × (i < j → (1 ≤ n) × ((1 < n) ↔ Time-taken live time j i))
+
+module _ (live time : List ℕ) (i j n : ℕ) where
+  -- a thread that has the time is among one more thread too
   later : Time-taken live time j i → Time-taken live time (j + 1) i
   later (k, l, d, a, t) = (k, omega arith, d, a, t)
 
+  -- and among one less, where it is not the last
   sooner : (j ≢ i → at live j ≡ 1 → at time j ≡ at time i → ⊥) → Time-taken live time (j + 1) i → Time-taken live time j i
   sooner none (k, l, d, a, t) =
       let n : k ≢ j = λ e. none (rw e at d) (rw e at a) (rw e at t) in
       (k, omega arith, d, a, t)
 
+  -- thread j has the time and is counted
+  hit : at live j ≡ 1 → at time j ≡ at time i → Counted live time i n j → Counted live time i (n + 1) (j + 1)
+  hit a t (l, below, above) = (omega arith, (λ h. ((λ _. (j, omega arith, omega arith, a, t)), λ _. omega arith)), λ h. go h (ℕ-discrete j i))
+    where
+      go : i < j + 1 → Dec (j ≡ i) → (1 ≤ n + 1) × ((1 < n + 1) ↔ Time-taken live time (j + 1) i)
+      go h (yes e) =
+          let b = below (omega arith) in
+          (omega arith, ((λ p. later (b .0 (omega arith))), λ w. let p = b .1 (sooner (λ d _ _. d e) w) in omega arith))
+      go h (no d) =
+          let p = above (omega arith) .0 in
+          (omega arith, ((λ _. (j, omega arith, d, a, t)), λ _. omega arith))
+
+  -- thread j hasn't, and so is not i
+  miss : at live i ≡ 1 → (at live j ≡ 1 → at time j ≡ at time i → ⊥) → Counted live time i n j → Counted live time i (n + 0) (j + 1)
+  miss li none (l, below, above) =
+      let d : j ≢ i = λ e. none (rw e li) (rw e refl) in (
+        omega arith,
+        (λ h. let b = below (omega arith) in ((λ p. later (b .0 (omega arith))), λ w. let q = b .1 (sooner (λ _. none) w) in omega arith)),
+        λ h. let b = above (omega arith) in (omega (arith, b .0), ((λ p. later (b .1 .0 (omega arith))), λ w. let q = b .1 .1 (sooner (λ _. none) w) in omega arith)),
+      )
+
 abbrev Inv-loop : tie.InvT-loop
-Inv-loop live time i x taken₀ j₀ taken j = (j ≤ 32) × ((taken ≡ true) ↔ Time-taken live time j i)
+Inv-loop live time i x n₀ j₀ n j = (j ≤ 32) × Counted live time i n j
 
 abbrev μ-loop : tie.MeasureT-loop
-μ-loop live time i x taken₀ j₀ taken j = 32 - j
+μ-loop live time i x n₀ j₀ n j = 32 - j
 
 mul-x : tie.Need-mul-x Inv-loop μ-loop
 mul-x c = omega arith
@@ -35,16 +63,25 @@ element-copy-out-x : tie.Need-element-copy-out-x Inv-loop μ-loop
 element-copy-out-x c = search needs
 
 loop-holds : tie.Need-loop-holds Inv-loop μ-loop
-loop-holds c = (omega arith, (λ e. absurd (false≢true e), λ w. absurd (omega (arith, w .1))))
+loop-holds c = (omega arith, (omega arith, (λ _. ((λ p. absurd (omega arith)), λ w. absurd (omega (arith, w .1)))), λ h. absurd (omega arith)))
 
-mul-if1 : tie.Need-mul-if1 Inv-loop μ-loop
-mul-if1 c = omega arith
+element-copy-out-has-time : tie.Need-element-copy-out-has-time Inv-loop μ-loop
+element-copy-out-has-time c = search needs
 
-element-copy-out-if1 : tie.Need-element-copy-out-if1 Inv-loop μ-loop
-element-copy-out-if1 c = search needs
+mul-has-time : tie.Need-mul-has-time Inv-loop μ-loop
+mul-has-time c = omega arith
 
-element-copy-out-if2 : tie.Need-element-copy-out-if2 Inv-loop μ-loop
-element-copy-out-if2 c = search needs
+element-copy-out-has-time-2 : tie.Need-element-copy-out-has-time-2 Inv-loop μ-loop
+element-copy-out-has-time-2 c = search needs
+
+has-time-requires : tie.Need-has-time-requires Inv-loop μ-loop
+has-time-requires c κs = search needs
+
+add-n : tie.Need-add-n Inv-loop μ-loop
+add-n c =
+    let h = c .before .before .before .before .loop .inv in
+    let small : c .has-time .result ≤ 1 = ⊎-elim (λ w. omega (arith, w .2)) (λ w. omega (arith, w .1)) (c .has-time .ensures) in
+    omega (arith, h .0, h .1 .0, small)
 
 add-j : tie.Need-add-j Inv-loop μ-loop
 add-j c = omega arith
@@ -54,21 +91,19 @@ loop-less c = omega arith
 
 loop-again : tie.Need-loop-again Inv-loop μ-loop
 loop-again c =
-    let h = c .before .before .before in
-    let live = h .before .before .args .live .now in
-    let time = h .before .before .args .time .now in
-    let i = h .before .before .args .i in
-    let j = h .loop .j in
-    let none : (j ≢ i → at live j ≡ 1 → at time j ≡ at time i → ⊥) → c .if1 .taken ≡ h .loop .taken → (c .if1 .taken ≡ true) ↔ Time-taken live time (j + 1) i
-    = λ n e. (λ p. later live time i j (h .loop .inv .1 .0 (sym e ∙ p)), λ w. e ∙ h .loop .inv .1 .1 (sooner live time i j n w)) in
-    ⊎-elim (λ w. (omega arith, (λ _. (j, omega arith, eqb-false _ _ (not-true _ (w .3 .taken)), eqb-true _ _ (w .2 .taken), w .0 .taken), λ _. w .4)))
-    (λ w. (omega arith, none (⊎-elim (λ v d _ _. d (eqb-true _ _ (not-false _ (v .3 .left)))) (⊎-elim (λ v _ a _. eqb-false _ _ (v .2 .left) a) (λ v _ _ t. v .left t)) (w .0 .came)) (w .1)))
-    (c .if1 .came)
+    let h = c .before .before .before .before in
+    let a = h .before .before .args in
+    let step = hit (a .live .now) (a .time .now) (a .i) (h .loop .j) (h .loop .n) in
+    let keep = miss (a .live .now) (a .time .now) (a .i) (h .loop .j) (h .loop .n) (h .before .before .pre .1) in
+    ⊎-elim (λ w. (omega arith, rw (w .2) (step (w .0) (w .1) (h .loop .inv .1)))) (λ w. (omega arith, rw (w .1) (keep (w .0) (h .loop .inv .1))))
+    (c .has-time .ensures)
 
 returns : tie.Need-returns Inv-loop μ-loop
 returns c =
     let e : c .before .loop .j ≡ 32 = omega arith in
-    rw e at (c .before .loop .inv .1)
+    let w = c .before .loop .inv .1 .2 (omega arith) in
+    let taken = rw e at (w .1) in
+    ((λ p. taken .0 (ltb-true _ _ p)), λ t. lt-ltb _ _ (taken .1 t))
 
 pub time-taken-spec : {M : Type 1} → statement M
 time-taken-spec =
@@ -79,9 +114,11 @@ time-taken-spec =
     mul-x
     element-copy-out-x
     loop-holds
-    mul-if1
-    element-copy-out-if1
-    element-copy-out-if2
+    element-copy-out-has-time
+    mul-has-time
+    element-copy-out-has-time-2
+    has-time-requires
+    add-n
     add-j
     loop-less
     loop-again

@@ -6,12 +6,13 @@ use native.Mathlib.Decide.{ℕ-discrete}
 use mathlib.Core.Path.{_≡_, refl, sym, _∙_}
 use mathlib.Core.Bool.{Bool, true, false, false≢true}
 use mathlib.Core.List.{List}
+use mathlib.Core.Logic.{⊎-elim}
 use lib.ListN.{getD, set, replicate}
 use lib.Seq.{getD-set-other}
 use borrow.Author.Count.{below-more}
 use borrow.Author.Needs.{needs}
-use Rattle.table.specs.Walks.{Ends-from}
-use Rattle.table.proofs.Chain.{ends-found, found-ends}
+use Rattle.table.specs.Walks.{Ends-from, here}
+use Rattle.table.proofs.Chain.{ends-found, resource-found}
 use Rattle.table.proofs.ways.no_circle.Statement.{statement}
 use Rattle.table.proofs.ways.no_circle.Tie as tie
 
@@ -38,16 +39,19 @@ abbrev μ-loop : tie.MeasureT-loop
 loop-holds : tie.Need-loop-holds Inv-loop μ-loop
 loop-holds c = (omega arith, (λ u h. absurd (omega arith)), λ u e. absurd (unseen 32 u e))
 
-from-thread-requires : tie.Need-from-thread-requires Inv-loop μ-loop
-from-thread-requires c κs = search needs
+cast-i : tie.Need-cast-i Inv-loop μ-loop
+cast-i c = search needs
+
+element-copy-out-r : tie.Need-element-copy-out-r Inv-loop μ-loop
+element-copy-out-r c = search needs
+
+from-resource-requires : tie.Need-from-resource-requires Inv-loop μ-loop
+from-resource-requires c κs = search needs
 
 returns : tie.Need-returns Inv-loop μ-loop
 returns c =
-    let s = c .before .before .before .before in
-    ((λ e. absurd (false≢true e)), λ f. absurd (ends-found _ _ _ _ (s .loop .t) (f (s .loop .t) (omega arith)) (sym (c .before .from-thread .ensures) ∙ c .if1 .taken)))
-
-cast-i : tie.Need-cast-i Inv-loop μ-loop
-cast-i c = search needs
+    let s = c .before .before .before .before .before .before in
+    ((λ e. absurd (false≢true e)), λ f. absurd (ends-found _ _ _ _ (s .loop .t) (c .before .before .before .if1 .taken) (f (s .loop .t) (omega arith)) (sym (c .before .from-resource .ensures) ∙ c .if2 .taken)))
 
 array-write-seen : tie.Need-array-write-seen Inv-loop μ-loop
 array-write-seen c = search needs
@@ -60,9 +64,12 @@ loop-less c = search needs
 
 loop-again : tie.Need-loop-again Inv-loop μ-loop
 loop-again c =
-    let s = c .before .before .before .before .loop in
-    let new = found-ends _ _ _ _ (s .inv .2) 64 (s .t) (λ e. c .if1 .left (c .before .from-thread .ensures ∙ e)) in
-    (omega arith, below-more _ _ (s .inv .1) new, marked (s .seen) (s .t) (s .inv .2) new)
+    let s = c .before .before .before .loop in
+    ⊎-elim
+    (λ w. let new = resource-found _ _ _ _ (s .inv .2) 64 (s .t) (omega arith) (w .0 .taken) (λ e. w .3 .left (w .2 .ensures ∙ e)) in
+    (omega arith, below-more _ _ (s .inv .1) new, rw (w .4) (marked (s .seen) (s .t) (s .inv .2) new)))
+    (λ w. (omega arith, below-more _ _ (s .inv .1) (0, here {t = s .t} (omega arith) (omega (arith, w .0 .left))), rw (w .1) (s .inv .2)))
+    (c .if1 .came)
 
 returns-2 : tie.Need-returns-2 Inv-loop μ-loop
 returns-2 c = ((λ _ th h. c .before .loop .inv .1 th (omega arith)), λ _. refl)
@@ -74,9 +81,10 @@ no-circle-spec =
     Inv-loop
     μ-loop
     loop-holds
-    from-thread-requires
-    returns
     cast-i
+    element-copy-out-r
+    from-resource-requires
+    returns
     array-write-seen
     add-t
     loop-less

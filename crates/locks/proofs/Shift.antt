@@ -1,0 +1,102 @@
+-- Moving the places behind the heir up one by one, and the table that this leaves. Assumes nothing.
+use Prim.Native.Nat.{ℕ, _+_, _*_, _-_, _≤_, _<_}
+use mathlib.Core.Path.{_≡_, refl, sym, ap, subst, _∙_}
+use mathlib.Core.Option.{some}
+use mathlib.Core.List.{List}
+use mathlib.Core.Logic.{_⊎_, inl, inr, ⊎-elim}
+use native.Mathlib.Decide.{ℕ-discrete, decLt}
+use native.Mathlib.Omega.{arith}
+use lib.ListN.{length, take, drop, set, length-set}
+use lib.Seq.{getD-set-same, getD-set-other}
+use Rattle.protocol.specs.Sets.{distinct}
+use Rattle.protocol.specs.Schedule.{release}
+use Rattle.table.specs.declared.Table.{Table}
+use Rattle.table.specs.Table.{at, queues}
+use Rattle.table.specs.Parts.{entry}
+use Rattle.table.specs.Checked.{table-of}
+use Rattle.table.proofs.Places.{part-length, part-at}
+use Rattle.locks.specs.Events.{with-queue}
+use Rattle.locks.proofs.Written.{Row-has, queue-written}
+use Rattle.locks.proofs.MovedUp.{Moved-up, moved-up}
+
+-- the table with other queue places
+abbrev pub with-places : Table → List ℕ → Table
+with-places t q = table-of (t .clock) (t .live) (t .priority) (t .time) (t .«current_priority») (t .«current_time») q (t .length)
+
+-- ys is xs with the places from `from` up to i filled each from the one behind it
+pub record Shifted (xs : List ℕ) (from i : ℕ) (ys : List ℕ) : Type 0 where
+  pub size : length ys ≡ length xs
+  pub kept : (j : ℕ) → (j < from) ⊎ (i ≤ j) → at ys j ≡ at xs j
+  pub moved : (j : ℕ) → from ≤ j → j < i → at ys j ≡ at xs (j + 1)
+
+-- none so far
+pub shift-none : (xs : List ℕ) (from : ℕ) → Shifted xs from from xs
+shift-none xs from = record { size = refl; kept = λ j o. refl; moved = λ j l h. absurd (omega arith) }
+
+-- one more
+pub shift-next : (xs : List ℕ) (from i : ℕ) (ys : List ℕ) → from ≤ i → i < length xs → Shifted xs from i ys → Shifted xs from (i + 1) (set ys i (at ys (i + 1)))
+shift-next xs from i ys l h s = record {
+  size = length-set ys i (at ys (i + 1)) ∙ s .size;
+  kept = λ j o. getD-set-other ys i j (at ys (i + 1)) 0 (λ e. ⊎-elim {C = ⊥} (λ k. absurd (omega arith)) (λ k. absurd (omega arith)) o) ∙ s .kept j (⊎-elim inl (λ k. inr (omega arith)) o);
+  moved = λ j a b. go j a b (ℕ-discrete j i);
+}
+  where
+    go : (j : ℕ) → from ≤ j → j < i + 1 → Dec (j ≡ i) → at (set ys i (at ys (i + 1))) j ≡ at xs (j + 1)
+    go j a b (yes e) = rw e (getD-set-same ys i (at ys (i + 1)) 0 (omega (arith, s .size)) ∙ s .kept (i + 1) (inr (omega arith)))
+    go j a b (no n) = getD-set-other ys i j (at ys (i + 1)) 0 n ∙ s .moved j a (omega arith)
+
+-- The n entries from a on, where the one at p goes to the head: those behind it are moved up, the last place becomes zero, and the head
+-- is written.
+pub handed-over : (xs : List ℕ) (a p n : ℕ) (ys q : List ℕ) → a + 32 ≤ length xs → n ≤ 32 → 1 ≤ p → p < n → ((i : ℕ) → n ≤ i → i < 32 → at xs (a + i) ≡ 0) →
+    Shifted xs (a + p) (a + n - 1) ys → Moved-up (take n (drop a xs)) p q → Row-has xs a q (set (set ys (a + n - 1) 0) a (at xs (a + p)))
+handed-over xs a p n ys q fits short l h zero s m = record {
+  size = length-set (set ys (a + n - 1) 0) a (at xs (a + p)) ∙ length-set ys (a + n - 1) 0 ∙ s .size;
+  outside = λ j o. ⊎-elim {C = at (set (set ys (a + n - 1) 0) a (at xs (a + p))) j ≡ at xs j} (λ k. untouched j (omega arith) (omega arith) ∙ s .kept j (inl (omega arith))) (λ k. untouched j (omega arith) (omega arith) ∙ s .kept j (inr (omega arith))) o;
+  entries = λ i k. inside i k (ℕ-discrete i 0) (decLt i p);
+  spare = λ i k b. beyond i k b (ℕ-discrete i (n - 1));
+}
+  where
+    all : length (take n (drop a xs)) ≡ n
+    all = part-length xs a n (inr (omega arith))
+
+    is : (i : ℕ) → i < n → at (take n (drop a xs)) i ≡ at xs (a + i)
+    is = part-at xs a n (inr (omega arith))
+
+    untouched : (j : ℕ) → ¬ (j ≡ a) → ¬ (j ≡ a + n - 1) → at (set (set ys (a + n - 1) 0) a (at xs (a + p))) j ≡ at ys j
+    untouched j u v = getD-set-other (set ys (a + n - 1) 0) a j (at xs (a + p)) 0 u ∙ getD-set-other ys (a + n - 1) j 0 0 v
+
+    inside : (i : ℕ) → i < length q → Dec (i ≡ 0) → Dec (i < p) → at (set (set ys (a + n - 1) 0) a (at xs (a + p))) (a + i) ≡ at q i
+    inside i k (yes z) d = let e : a + i ≡ a = omega arith in rw (e, z) (getD-set-same (set ys (a + n - 1) 0) a (at xs (a + p)) 0 (omega (arith, length-set ys (a + n - 1) 0, s .size)) ∙ sym (is p h) ∙ sym (m .head))
+    inside i k (no z) (yes d) = untouched (a + i) (omega arith) (omega arith) ∙ s .kept (a + i) (inl (omega arith)) ∙ sym (is i (omega arith)) ∙ sym (m .before i (omega arith) d)
+    inside i k (no z) (no d) =
+        let b : i + 1 < n = omega (arith, m .size, all) in
+        let e : a + i + 1 ≡ a + (i + 1) = omega arith in
+        untouched (a + i) (omega arith) (omega arith) ∙ s .moved (a + i) (omega arith) (omega arith) ∙ ap (at xs) e ∙ sym (is (i + 1) b) ∙ sym (m .after i (omega arith) (omega (arith, all)))
+
+    beyond : (i : ℕ) → length q ≤ i → i < 32 → Dec (i ≡ n - 1) → at (set (set ys (a + n - 1) 0) a (at xs (a + p))) (a + i) ≡ 0
+    beyond i k b (yes e) =
+        let f : a + i ≡ a + n - 1 = omega arith in
+        rw f (getD-set-other (set ys (a + n - 1) 0) a (a + n - 1) (at xs (a + p)) 0 (omega arith) ∙ getD-set-same ys (a + n - 1) 0 0 (omega (arith, s .size)))
+    beyond i k b (no e) = let c : n ≤ i = omega (arith, m .size, all) in untouched (a + i) (omega arith) (omega arith) ∙ s .kept (a + i) (inr (omega arith)) ∙ zero i c b
+
+-- so the table has the queue that the release leaves
+pub handed-table : (t : Table) (r p n : ℕ) (ys : List ℕ) → length (t .queue) ≡ 512 → r < 16 → n ≤ 32 → at (t .length) r ≡ n → 1 ≤ p → p < n → distinct (queues t r) →
+    ((i : ℕ) → n ≤ i → i < 32 → entry (t .queue) r i ≡ 0) → Shifted (t .queue) (r * 32 + p) (r * 32 + n - 1) ys →
+    table-of (t .clock + 1) (t .live) (t .priority) (t .time) (t .«current_priority») (t .«current_time») (set (set ys (r * 32 + n - 1) 0) (r * 32) (entry (t .queue) r p)) (set (t .length) r (n - 1))
+    ≡ with-queue t r (release (queues t r) (some (entry (t .queue) r p)))
+handed-table t r p n ys size low short e l h d zero s =
+    queue-written t r (n - 1) (release (queues t r) (some (entry (t .queue) r p))) (set (set ys (r * 32 + n - 1) 0) (r * 32) (entry (t .queue) r p)) (omega arith) (omega (arith, moved .size, all))
+    (handed-over (t .queue) (r * 32) p n ys (release (queues t r) (some (entry (t .queue) r p))) (omega arith) short l h zero s (subst (λ (q : List ℕ). Moved-up q p (release (queues t r) (some (entry (t .queue) r p)))) row moved))
+    (omega (arith, moved .size, all))
+  where
+    row : queues t r ≡ take n (drop (r * 32) (t .queue))
+    row = ap (λ (m : ℕ). take m (drop (r * 32) (t .queue))) e
+
+    all : length (queues t r) ≡ n
+    all = ap length row ∙ part-length (t .queue) (r * 32) n (inr (omega arith))
+
+    there : at (queues t r) p ≡ entry (t .queue) r p
+    there = ap (λ (q : List ℕ). at q p) row ∙ part-at (t .queue) (r * 32) n (inr (omega arith)) p h
+
+    moved : Moved-up (queues t r) p (release (queues t r) (some (entry (t .queue) r p)))
+    moved = subst (λ (x : ℕ). Moved-up (queues t r) p (release (queues t r) (some x))) there (moved-up (queues t r) p d l (omega (arith, all)))
