@@ -1,0 +1,4 @@
+-- Laws of the drill, from the bottom up.
+pub mod Feeding
+pub mod Parts
+pub mod Groups

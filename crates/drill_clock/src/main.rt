@@ -1,0 +1,57 @@
+// Brings the clock to 65,534 by records of its own and tries the edge there. The lines it prints go on from there: record 65,535 is
+// the last that is accepted.
+use drill::Bench;
+use drill::Fed;
+use drill::feed;
+use drill::streams::print;
+use listing::header;
+use locks::Record;
+
+// The accepted events that come before the edge, after the first Create.
+const SETS: u32 = 65533;
+
+// A record whose fourth byte is 0.
+fn give(s: Bench, kind: u8, thread: u8, argument: u8) -> Fed {
+    let first = feed(s, kind);
+    let second = feed(first.bench, thread);
+    let third = feed(second.bench, argument);
+    feed(third.bench, 0)
+}
+
+// The same, with its line printed.
+fn show(s: Bench, kind: u8, thread: u8, argument: u8) -> Bench {
+    let fed = give(s, kind, thread, argument);
+    print(fed.text);
+    fed.bench
+}
+
+// Thread 0 sets its priority over and over.
+fn age(s: Bench) -> Bench {
+    let mut bench = s;
+    let mut left = SETS;
+    while left > 0 {
+        left -= 1;
+        let fed = give(bench, Record::SET, 0, 1);
+        bench = fed.bench;
+    }
+    bench
+}
+
+// At 65,535 each kind gives 5, unless 2, 3 or 4 catches it.
+fn stopped(s: Bench) {
+    let created = show(s, Record::CREATE, 2, 9);
+    let exited = show(created, Record::EXIT, 0, 0);
+    let set = show(exited, Record::SET, 0, 9);
+    let requested = show(set, Record::P, 0, 0);
+    let released = show(requested, Record::V, 0, 0);
+    let unknown = show(released, 6, 0, 0);
+    let nobody = show(unknown, Record::CREATE, 32, 9);
+    show(nobody, Record::P, 0, 16);
+}
+
+fn main() {
+    print(header());
+    let created = give(Bench::start(), Record::CREATE, 0, 1);
+    let aged = age(created.bench);
+    stopped(show(aged, Record::CREATE, 1, 9));
+}
