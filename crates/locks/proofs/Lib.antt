@@ -21,6 +21,7 @@ pub mod Finished
 pub mod SlotWork
 pub mod Heir
 pub mod Refused
+pub mod Exactly
 pub mod Admitted
 pub mod Applied
 pub mod StaysSound

@@ -33,6 +33,12 @@ names-thread e z = go (not (leb 1 (e .kind) && leb (e .kind) 5)) (ltb 31 (e .thr
 unfoldable pub from-5 : ℕ → Bool → Bool → Bool → ℕ → ℕ
 from-5 clock create live runs rest = cond (eqb clock 65535) 5 (cond (create && live) 6 (cond (not create && not live) 7 (cond (not create && not runs) 8 rest)))
 
+-- past 7 the thread is live, so that 8 need not ask again
+past-7 : (create live runs : Bool) (n : ℕ) → cond (not create && not live) 7 (cond (not create && (live && not runs)) 8 n) ≡ cond (not create && not live) 7 (cond (not create && not runs) 8 n)
+past-7 true live runs n = refl
+past-7 false true runs n = refl
+past-7 false false runs n = refl
+
 -- who requests runs, where 8 doesn't apply
 pub requester-runs : (kind running thread : ℕ) → (not (eqb kind 1) && not (eqb running thread)) ≡ false → kind ≡ 4 → running ≡ thread
 requester-runs kind running thread f e = eqb-true running thread (not-false (eqb running thread) (rw e at f))
@@ -44,7 +50,7 @@ module _ (t : Table) (e : Record) where
   -- on a sound table a refusal by the record comes first
   record-first : is-sound t ≡ true → lowest (refusals t e) ≡ cond (eqb (record-number e) 0) rest (record-number e)
   unfolding lowest refusals record-number queues-number from-5 rest
-  record-first s = rw s (go (not (leb 1 (e .kind) && leb (e .kind) 5)) (ltb 31 (e .thread)) (malformed e))
+  record-first s = rw (s, past-7 (eqb (e .kind) 1) (is-live t (e .thread)) (eqb (runner t) (e .thread)) (queues-number t e)) (go (not (leb 1 (e .kind) && leb (e .kind) 5)) (ltb 31 (e .thread)) (malformed e))
     where
       go : (a b m : Bool) → cond a 2 (cond b 3 (cond m 4 rest)) ≡ cond (eqb (by-tests a b m) 0) rest (by-tests a b m)
       go true b m = refl

@@ -2,6 +2,7 @@
 pub mod Events
 pub mod Count
 pub mod Refusals
+pub mod Applies
 pub mod Answers
 pub mod Queries
 -- How the code goes about it.

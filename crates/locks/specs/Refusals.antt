@@ -35,7 +35,7 @@ refusals t e =
     ∷ (record { number = 5; applies = eqb (t .clock) 65535 }
     ∷ (record { number = 6; applies = eqb (e .kind) 1 && is-live t (e .thread) }
     ∷ (record { number = 7; applies = not (eqb (e .kind) 1) && not (is-live t (e .thread)) }
-    ∷ (record { number = 8; applies = not (eqb (e .kind) 1) && not (eqb (runner t) (e .thread)) }
+    ∷ (record { number = 8; applies = not (eqb (e .kind) 1) && (is-live t (e .thread) && not (eqb (runner t) (e .thread))) }
     ∷ (record { number = 9; applies = eqb (e .kind) 4 && leads t (e .argument) (e .thread) }
     ∷ (record { number = 10; applies = eqb (e .kind) 5 && not (eqb (holder t (e .argument)) (e .thread)) }
     ∷ (record { number = 11; applies = eqb (e .kind) 2 && holds-any t (e .thread) }

@@ -1,6 +1,7 @@
 -- The empty table is sound. Assumes nothing.
 use Prim.Native.Nat.{ℕ, zero, suc, _+_, _*_}
 use mathlib.Core.Path.{_≡_, refl}
+use mathlib.Core.List.{[]}
 use native.Mathlib.Omega.{arith}
 use lib.ListN.{replicate}
 use Rattle.protocol.specs.Sets.{_∈_, set}
@@ -14,11 +15,16 @@ zeros zero i = refl
 zeros (suc n) zero = refl
 zeros (suc n) (suc i) = zeros n i
 
-nobody : (th : ℕ) → ¬ (th ∈ live empty)
+-- nobody is live in it
+pub nobody : (th : ℕ) → ¬ (th ∈ live empty)
 nobody th l = omega (arith, zeros 32 th)
 
-no-queue : (cs th : ℕ) → ¬ (th ∈ set (queues empty cs))
-no-queue cs th i = rw (zeros 16 cs) at i
+-- and every queue is empty
+pub no-queue : (cs : ℕ) → queues empty cs ≡ []
+no-queue cs = rw (zeros 16 cs)
+
+no-entry : (cs th : ℕ) → ¬ (th ∈ set (queues empty cs))
+no-entry cs th i = rw (no-queue cs) at i
 
 pub empty-sound : Sound empty
 empty-sound = record {
@@ -27,8 +33,8 @@ empty-sound = record {
   dead-slots = λ th n. record { live-zero = zeros 32 th; priority-zero = zeros 32 th; time-zero = zeros 32 th; current-priority-zero = zeros 32 th; current-time-zero = zeros 32 th };
   spare-places = λ cs i h k l. zeros 512 (cs * 32 + i);
   times = record { below-clock = λ th l. absurd (nobody th l); different = λ x y l m e. absurd (nobody x l) };
-  queues-right = record { lengths = λ cs. omega (arith, zeros 16 cs); live-entries = λ cs th i. absurd (no-queue cs th i); differ = λ cs. rw (zeros 16 cs) tt };
-  one-wait = λ th cs₁ cs₂ w v. absurd (no-queue cs₁ th (w .0));
-  ways-end = every-way (queues empty) (λ th. (zero, stop (λ h k. no-queue (k .0) th (k .1 .0))));
+  queues-right = record { lengths = λ cs. omega (arith, zeros 16 cs); live-entries = λ cs th i. absurd (no-entry cs th i); differ = λ cs. rw (no-queue cs) tt };
+  one-wait = λ th cs₁ cs₂ w v. absurd (no-entry cs₁ th (w .0));
+  ways-end = every-way (queues empty) (λ th. (zero, stop (λ h k. no-entry (k .0) th (k .1 .0))));
   current = λ th l. absurd (nobody th l);
 }

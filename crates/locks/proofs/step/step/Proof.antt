@@ -11,7 +11,7 @@ use Rattle.table.specs.Walks.{runner as highest-ready}
 use Rattle.table.specs.Compute.{runner}
 use Rattle.locks.specs.declared.Record.{Record}
 use Rattle.locks.specs.Refusing.{Lent}
-use Rattle.locks.proofs.Bridge.{found-sound, found-unsound, waits-is, runner-is}
+use Rattle.locks.proofs.Bridge.{found-unsound, waits-is, runner-is}
 use Rattle.locks.proofs.Answered.{not-sound, turned-down, let-through}
 use Rattle.locks.proofs.step.step.Statement.{statement}
 use Rattle.locks.proofs.step.step.Tie as tie
@@ -67,7 +67,7 @@ returns-2 c =
     let s = c .before .before .before .before .before .before .before .before .before .before .before .before .before .before .before .before .if1 .left in
     let runs-is = runs t e k s (c .before .before .before .before .before .before .before .before .running .ensures) in
     let number-is = c .before .before .refusal .ensures t refl refl (lent t e k s) runs-is in
-    c .refuse2 .ensures ∙ sym (turned-down t e (c .before .before .refusal .result) (c .before .before .before .before .before .before .before .before .running .result) (found-sound t k s) number-is (c .before .if2 .taken) runs-is)
+    c .refuse2 .ensures ∙ sym (turned-down t e (c .before .before .refusal .result) (c .before .before .before .before .before .before .before .before .running .result) (k .shape) (k .passed (yes-sound t e k s)) number-is (c .before .if2 .taken) runs-is)
 
 carry-out-requires : tie.Need-carry-out-requires
 carry-out-requires c κs =

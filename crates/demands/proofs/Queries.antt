@@ -1,0 +1,122 @@
+-- What the queries answer for a sound table that agrees with a state, in the paper's terms. Assumes nothing.
+use Prim.Native.Nat.{ℕ, _<_}
+use mathlib.Core.Path.{_≡_, refl, sym, ap, subst}
+use mathlib.Core.Bool.{true, false}
+use mathlib.Core.Logic.{_⊎_, inl, inr}
+use mathlib.Core.List.{List, [], _∷_}
+use native.Mathlib.Omega.{arith}
+use borrow.Author.Tests.{not-true, lt-ltb, le-ltb}
+use lib.ListN.{length}
+use Rattle.protocol.specs.Sets.{_∈_, set}
+use Rattle.protocol.specs.Events.{Resource, State, threads, Precedence}
+use Rattle.protocol.specs.Graph.{Queues, waits}
+use Rattle.protocol.specs.Schedule.{wq, cprec}
+use Rattle.protocol.proofs.Lists.{Holding}
+use Rattle.protocol.proofs.Kept.{Kept}
+use Rattle.table.specs.declared.Table.{Table}
+use Rattle.table.specs.Table.{live}
+use Rattle.table.specs.Compute.{first-or-32, holder, is-live, is-sound, runner, waits-for}
+use Rattle.table.proofs.Decided.{tells-sound}
+use Rattle.table.proofs.Reflect.{tells-not}
+use Rattle.table.proofs.Computed.{tells-live}
+use Rattle.table.proofs.Rows.{live-low}
+use Rattle.locks.specs.Refusals.{lowest}
+use Rattle.locks.specs.Queries.{unsound, running-refusals, running-answer, thread-refusals, thread-refused, thread-told as thread-table, thread-answer, resource-refusals, resource-refused, resource-told as resource-table, resource-answer}
+use Rattle.locks.proofs.OfSound.{runs, waited, current-stored, waiters-are, queue-length}
+use Rattle.locks.proofs.StaysSound.{Right}
+use Rattle.demands.specs.Told.{Running-told, Names-waited, Thread-told, Names-holder, Resource-told}
+use Rattle.demands.proofs.Agrees.{Agrees}
+use Rattle.demands.proofs.Same.{names-running, shows}
+
+module _ (t : Table) (right : Right t) where
+  -- the test passes a sound table
+  sound-true : is-sound t ≡ true
+  sound-true = tells-sound t (right .0) .1 (right .1)
+
+  -- so the running query is not refused
+  pub running-is : running-answer t ≡ record { number = 0; running = runner t }
+  unfolding unsound running-refusals running-answer lowest
+  running-is = rw sound-true
+
+  -- the thread query of a live thread is not refused
+  pub thread-is : (th : ℕ) → th ∈ live t → thread-answer t th ≡ thread-table t th
+  unfolding unsound thread-refusals thread-answer lowest
+  thread-is th l = rw (sound-true, le-ltb 31 th (omega (arith, live-low t (right .0) th l)), tells-live t th .1 l)
+
+  -- the resource query of one of the sixteen resources is not refused
+  pub resource-is : (cs : ℕ) → cs < 16 → resource-answer t cs ≡ resource-table t cs
+  unfolding unsound resource-refusals resource-answer lowest
+  resource-is cs low = rw (sound-true, le-ltb 15 cs (omega arith))
+
+  -- a thread that isn't live is refused with 7
+  pub thread-dead : (th : ℕ) → th < 32 → ¬ (th ∈ live t) → thread-answer t th ≡ thread-refused 7
+  unfolding unsound thread-refusals thread-answer lowest
+  thread-dead th low dead = rw (sound-true, le-ltb 31 th (omega arith), not-true (is-live t th) (tells-not (tells-live t th) .1 dead))
+
+  -- and an id above 31 with 3
+  pub thread-absent : (th : ℕ) → 31 < th → thread-answer t th ≡ thread-refused 3
+  unfolding unsound thread-refusals thread-answer lowest
+  thread-absent th high = rw (sound-true, lt-ltb 31 th high)
+
+  -- a resource above 15 is refused with 4
+  pub resource-absent : (cs : ℕ) → 15 < cs → resource-answer t cs ≡ resource-refused 4
+  unfolding unsound resource-refusals resource-answer lowest
+  resource-absent cs high = rw (sound-true, lt-ltb 15 cs high)
+
+-- on a table that isn't sound every query is refused with 1
+module _ (t : Table) where
+  pub running-unsound : is-sound t ≡ false → running-answer t ≡ record { number = 1; running = 32 }
+  unfolding unsound running-refusals running-answer lowest
+  running-unsound f = rw f
+
+  pub thread-unsound : (th : ℕ) → is-sound t ≡ false → thread-answer t th ≡ thread-refused 1
+  unfolding unsound thread-refusals thread-answer lowest
+  thread-unsound th f = rw f
+
+  pub resource-unsound : (cs : ℕ) → is-sound t ≡ false → resource-answer t cs ≡ resource-refused 1
+  unfolding unsound resource-refusals resource-answer lowest
+  resource-unsound cs f = rw f
+
+-- the first of a queue of threads is its head; 32 stands for that of an empty one
+first-names : (q : List ℕ) → ((x : ℕ) → x ∈ set q → x < 32) → ((first-or-32 q < 32) × Holding q (first-or-32 q)) ⊎ ((first-or-32 q ≡ 32) × (q ≡ []))
+unfolding first-or-32
+first-names [] low = inr (refl, refl)
+first-names (x ∷ xs) low = inl (low x (inl refl), (inl refl, refl))
+
+module _ (t : Table) (s : State) (a : Agrees t s) (k : Kept s) where
+  -- `waits-for` names what a thread waits for in the state
+  names-waited : Right t → (th : ℕ) → Names-waited s th (waits-for t th)
+  names-waited right th = subst (λ (q : Queues). ((waits-for t th < 16) × waits q th (waits-for t th)) ⊎ ((waits-for t th ≡ 16) × ((cs : Resource) → ¬ waits q th cs))) (a .queues) (waited t (right .0) (right .1) th)
+
+  -- `holder` names the holder in the state
+  names-holder : Right t → (cs : ℕ) → Names-holder s cs (holder t cs)
+  unfolding holder
+  names-holder right cs = rw (shows t s a k right .queues cs) (first-names (wq s cs) (λ x i. shows t s a k right .ids x (k .entries cs x i)))
+
+  -- the running query names the running thread
+  pub running-told : Right t → Running-told s (running-answer t)
+  running-told right = rw (running-is t right) (refl, names-running t s a k (runner t) (runs t (right .0) (right .1)))
+
+  -- the thread query tells of a live thread what the state says
+  pub thread-told : Right t → (th : ℕ) → th ∈ threads s → Thread-told s th (thread-answer t th)
+  unfolding thread-table
+  thread-told right th l = rw (thread-is t right th (a .live th .1 l)) (record {
+    accepted = refl;
+    priority = shows t s a k right .priority th l;
+    time = shows t s a k right .time th l;
+    current = subst (λ (p : Precedence). cprec s th p) (sym (current-stored t (right .0) (right .1) th (a .live th .1 l))) (shows t s a k right .current th l);
+    waiting = names-waited right th;
+  })
+
+  -- it refuses a thread that isn't live
+  pub dead-told : Right t → (th : ℕ) → th < 32 → ¬ (th ∈ threads s) → thread-answer t th ≡ thread-refused 7
+  dead-told right th low dead = thread-dead t right th low (λ l. dead (a .live th .0 l))
+
+  -- the resource query tells the holder and the number of waiters
+  pub resource-told : Right t → (cs : ℕ) → cs < 16 → Resource-told s cs (resource-answer t cs)
+  unfolding resource-table
+  resource-told right cs low = rw (resource-is t right cs low) (record {
+    accepted = refl;
+    holder = names-holder right cs;
+    waiters = omega (arith, waiters-are t (right .0) (right .1) cs low, queue-length t (right .0) (right .1) cs low, ap length (shows t s a k right .queues cs));
+  })

@@ -1,0 +1,208 @@
+-- Document 01, "How much each call's statement says": no two results satisfy the statement of a call for one input; and what the statements and demand 2 rule out.
+-- Assumes nothing.
+use Prim.Native.Nat.{ℕ, _<_}
+use mathlib.Core.Path.{_≡_, refl, sym, ap, subst, _∙_}
+use mathlib.Core.Bool.{Bool, true}
+use mathlib.Core.Logic.{_≢_, inl, inr, ⊎-elim, _↔_}
+use mathlib.Core.List.{[], _∷_}
+use native.Mathlib.Decide.{ℕ-discrete}
+use native.Mathlib.Omega.{arith}
+use Rattle.protocol.specs.Events.{Event, Create, State}
+use Rattle.protocol.specs.Rules.{step, create as create-step}
+use Rattle.protocol.proofs.Theorems.{some-runs}
+use Rattle.table.specs.declared.Table.{Table}
+use Rattle.table.specs.Table.{empty}
+use Rattle.table.specs.Sound.{Sound}
+use Rattle.table.proofs.Reflect.{same-test}
+use Rattle.locks.specs.declared.Record.{Record}
+use Rattle.locks.specs.declared.Done.{Done}
+use Rattle.locks.specs.declared.queries.RunningAnswer.{RunningAnswer}
+use Rattle.locks.specs.declared.queries.ThreadAnswer.{ThreadAnswer}
+use Rattle.locks.specs.declared.queries.ResourceAnswer.{ResourceAnswer}
+use Rattle.locks.specs.Refusals.{refusals, lowest}
+use Rattle.locks.specs.Applies.{no-kind}
+use Rattle.locks.specs.Answers.{accepted as answer-accepted, refused as answer-refused, applied, answerOf}
+use Rattle.locks.specs.Queries.{running-answer, thread-answer, resource-answer}
+use Rattle.locks.proofs.Exactly.{exactly, given-none}
+use Rattle.locks.proofs.Answered.{refused-is, let-through}
+use Rattle.demands.specs.Calls.{Any-table, Any-record, Calls, As-stated}
+use Rattle.demands.specs.Runs.{table-after, number-of, Writes, create, exit, set-anew, request, release, History, none-yet, accepted, Well-formed}
+use Rattle.demands.specs.Told.{Names-running}
+use Rattle.demands.proofs.InMemory.{right-any}
+use Rattle.demands.proofs.Numbers.{number-is}
+use Rattle.demands.proofs.Reached.{start-reached}
+use Rattle.demands.proofs.Demand2.{After, Demand-2, demand-2}
+
+-- For one input, no two results satisfy the statement of
+
+one : {A : Type 0} {x : A} (a b : A) → a ≡ x → b ≡ x → a ≡ b
+one a b p q = p ∙ sym q
+
+-- the step: number, running thread, count and the whole table
+pub step-one : (t : Table) (e : Record) (d d′ : Done) → d ≡ answerOf t e → d′ ≡ answerOf t e → d ≡ d′
+step-one t e = one
+
+-- the three queries
+pub running-one : (t : Table) (a a′ : RunningAnswer) → a ≡ running-answer t → a′ ≡ running-answer t → a ≡ a′
+running-one t = one
+
+pub thread-one : (t : Table) (th : ℕ) (a a′ : ThreadAnswer) → a ≡ thread-answer t th → a′ ≡ thread-answer t th → a ≡ a′
+thread-one t th = one
+
+pub resource-one : (t : Table) (cs : ℕ) (a a′ : ResourceAnswer) → a ≡ resource-answer t cs → a′ ≡ resource-answer t cs → a ≡ a′
+resource-one t cs = one
+
+-- the empty table, and the test whether a table is sound
+pub empty-one : (t t′ : Table) → t ≡ empty → t′ ≡ empty → t ≡ t′
+empty-one = one
+
+pub sound-one : (t : Table) (b b′ : Bool) → (b ≡ true) ↔ Sound t → (b′ ≡ true) ↔ Sound t → b ≡ b′
+sound-one t b b′ = same-test
+
+-- The wrong schedulers, each any functions in the places of the calls.
+
+-- One that refuses everything does not meet demand 2.
+abbrev pub Refuses-everything : Calls → Type 0
+Refuses-everything c = (t : Table) (e : Record) → c .step t e .answer .number ≢ 0
+
+-- One that always names one thread, in the step's answers or in the running query's, does not.
+abbrev pub Names-one : Calls → ℕ → Type 0
+Names-one c r = (t : Table) (e : Record) → c .step t e .answer .running ≡ r
+
+abbrev pub Query-names-one : Calls → ℕ → Type 0
+Query-names-one c r = (t : Table) → c .running-of t .running ≡ r
+
+-- One that accepts and touches nothing does not.
+abbrev pub Touches-nothing : Calls → Type 0
+Touches-nothing c = (t : Table) (e : Record) → (c .step t e .answer .number ≡ 0) × (c .step t e .table ≡ t)
+
+-- One that, whatever it does with the first event, afterwards only answers 0 does not.
+abbrev pub Then-answers-0 : Calls → Type 0
+Then-answers-0 c = (t : Table) (e : Record) → t ≢ empty → c .step t e .answer .number ≡ 0
+
+-- One whose count is anywhere another than that of the section on re-evaluations does not do what the calls ensure; nor does one whose count is always the same.
+abbrev pub Invents-a-count : Calls → Type 0
+Invents-a-count c = (t : Table) × (e : Record) × Any-table t × Any-record e × (c .step t e .answer .count ≢ answerOf t e .answer .count)
+
+abbrev pub Counts-always : Calls → ℕ → Type 0
+Counts-always c n = (t : Table) (e : Record) → c .step t e .answer .count ≡ n
+
+-- How each fails. The first Create of x is well-formed, and the rules admit it.
+
+creates : ℕ → Record
+creates x = record { kind = 1; thread = x; argument = 0; zero = 0 }
+
+well : (x : ℕ) → x < 32 → Well-formed (creates x)
+unfolding creates
+well x low = record { kind-from = omega arith; kind-to = omega arith; thread = low; resource = ⊎-elim (λ k. absurd (omega arith)) (λ k. absurd (omega arith)); priority = omega arith; exit-plain = λ k. refl; fourth = refl }
+
+any : (x : ℕ) → x < 32 → Any-record (creates x)
+unfolding creates
+any x low = record { kind = omega arith; thread = omega arith; argument = omega arith; zero = omega arith }
+
+-- its event is a Create
+is-create : (s : State) (x : ℕ) {ev : Event} → Writes s (creates x) ev → ev ≡ Create x 0
+unfolding creates
+is-create s x (create k) = refl
+is-create s x (exit k) = absurd (omega arith)
+is-create s x (set-anew k) = absurd (omega arith)
+is-create s x (request k) = absurd (omega arith)
+is-create s x (release k f) = absurd (omega arith)
+
+module _ (c : Calls) (d : Demand-2 c) where
+  -- before any record
+  at-first : After c [] []
+  at-first = let w = d [] tt in subst (After c []) (sym (w .1 .only [] none-yet)) (w .1)
+
+  module _ (x : ℕ) (low : x < 32) where
+    -- the first Create is accepted
+    first-accepted : number-of c [] (creates x) ≡ 0
+    first-accepted = let w = at-first .admits (creates x) (well x low) (omega arith) in w .2 .1 (subst (step []) (sym (is-create [] x (w .1))) (create-step (λ l. l)))
+
+    first-history : History c (creates x ∷ []) (Create x 0 ∷ [])
+    unfolding creates
+    first-history = accepted none-yet first-accepted (create refl)
+
+    after-first : After c (creates x ∷ []) (Create x 0 ∷ [])
+    after-first = let w = d (creates x ∷ []) (any x low, tt) in subst (After c (creates x ∷ [])) (sym (w .1 .only (Create x 0 ∷ []) first-history)) (w .1)
+
+    -- then x runs, and no other
+    x-is-named : (r : ℕ) → Names-running (Create x 0 ∷ []) r → r ≡ x
+    x-is-named r (inl w) = ⊎-elim (λ e. e) absurd (w .1 .among .0)
+    x-is-named r (inr w) = let k = some-runs (Create x 0 ∷ []) (after-first .by-rules) x (inl refl) in absurd (w .1 (k .0) (k .1))
+
+-- a thread that r is not
+other : (r : ℕ) → (x : ℕ) × (x < 32) × (r ≢ x)
+other r = go (ℕ-discrete r 0)
+  where
+    go : Dec (r ≡ 0) → (x : ℕ) × (x < 32) × (r ≢ x)
+    go (yes e) = (1, omega arith, λ k. absurd (omega arith))
+    go (no n) = (0, omega arith, n)
+
+-- at the first Create
+pub refuses-everything : (c : Calls) → Refuses-everything c → ¬ Demand-2 c
+refuses-everything c wrong d = wrong empty (creates 0) (first-accepted c d 0 (omega arith))
+
+-- at the first Create of a thread that it does not name
+pub names-one : (c : Calls) (r : ℕ) → Names-one c r → ¬ Demand-2 c
+names-one c r wrong d = let o = other r in
+    o .2 (sym (wrong empty (creates (o .0))) ∙ x-is-named c d (o .0) (o .1) (c .step empty (creates (o .0)) .answer .running) (at-first c d .answer-names (creates (o .0)) (any (o .0) (o .1)) (Create (o .0) 0 ∷ []) (first-history c d (o .0) (o .1))))
+
+pub query-names-one : (c : Calls) (r : ℕ) → Query-names-one c r → ¬ Demand-2 c
+query-names-one c r wrong d = let o = other r in let t = table-after c (creates (o .0) ∷ []) in
+    o .2 (sym (wrong t) ∙ x-is-named c d (o .0) (o .1) (c .running-of t .running) (after-first c d (o .0) (o .1) .running-query .1))
+
+-- at the next query: of one table it cannot say that nobody runs, and that somebody does
+pub touches-nothing : (c : Calls) → Touches-nothing c → ¬ Demand-2 c
+touches-nothing c wrong d = ⊎-elim (λ w. w .1 .among .0) (λ w. absurd (omega (arith, w .0, then-0))) (at-first c d .running-query .1)
+  where
+    then-0 : c .running-of empty .running ≡ 0
+    then-0 = x-is-named c d 0 (omega arith) (c .running-of empty .running) (subst (λ (t : Table). Names-running (Create 0 0 ∷ []) (c .running-of t .running)) (wrong empty (creates 0) .1) (after-first c d 0 (omega arith) .running-query .1))
+
+-- at the second event, another Create of the same thread
+pub then-answers-0 : (c : Calls) → Then-answers-0 c → ¬ Demand-2 c
+then-answers-0 c wrong d = twice (subst (step (Create 0 0 ∷ [])) (is-create (Create 0 0 ∷ []) 0 (w .1)) (w .2 .0 (wrong t (creates 0) not-empty)))
+  where
+    t : Table
+    t = table-after c (creates 0 ∷ [])
+
+    not-empty : t ≢ empty
+    not-empty e = absurd (omega (arith, after-first c d 0 (omega arith) .table .clock, ap (λ (u : Table). u .clock) e))
+
+    w : (ev : Event) × Writes (Create 0 0 ∷ []) (creates 0) ev × ((number-of c (creates 0 ∷ []) (creates 0) ≡ 0) ↔ step (Create 0 0 ∷ []) ev)
+    w = after-first c d 0 (omega arith) .admits (creates 0) (well 0 (omega arith)) (omega arith)
+
+    twice : ¬ step (Create 0 0 ∷ []) (Create 0 0)
+    twice (create-step dead) = dead (inl refl)
+
+-- at the input where it is another
+pub invents-a-count : (c : Calls) → Invents-a-count c → ¬ As-stated c
+invents-a-count c (t, e, any-t, any-e, wrong) is = wrong (ap (λ (x : Done). x .answer .count) (is .step t e any-t any-e))
+
+-- a record of no kind
+no-kind-at-all : Record
+no-kind-at-all = record { kind = 0; thread = 0; argument = 0; zero = 0 }
+
+module _ (c : Calls) (is : As-stated c) where
+  memory : Any-table empty
+  memory = right-any empty (start-reached .right)
+
+  number : (e : Record) → Any-record e → c .step empty e .answer .number ≡ lowest (refusals empty e)
+  number e a = ap (λ (x : Done). x .answer .number) (is .step empty e memory a) ∙ number-is empty e (start-reached .right .0)
+
+  -- an accepted Create counts 1
+  create-counts : c .step empty (creates 0) .answer .count ≡ 1
+  unfolding creates applied answer-accepted
+  create-counts = let a = any 0 (omega arith) in
+      ap (λ (x : Done). x .answer .count) (is .step empty (creates 0) memory a ∙ let-through empty (creates 0) (sym (number (creates 0) a) ∙ first-accepted c (demand-2 c is) 0 (omega arith)))
+
+  -- a refusal counts 0
+  refusal-counts : c .step empty no-kind-at-all .answer .count ≡ 0
+  unfolding no-kind-at-all answer-refused
+  refusal-counts = ap (λ (x : Done). x .answer .count)
+      (is .step empty no-kind-at-all memory (record { kind = omega arith; thread = omega arith; argument = omega arith; zero = omega arith }) ∙ refused-is empty no-kind-at-all
+      (λ z. given-none empty no-kind-at-all (lowest (refusals empty no-kind-at-all)) (exactly empty no-kind-at-all (start-reached .right .0)) z 2 (no-kind (λ w. absurd (omega (arith, w .0))))))
+
+-- at the first Create, or at the first refusal
+pub counts-always : (c : Calls) (n : ℕ) → Counts-always c n → ¬ As-stated c
+counts-always c n wrong is = absurd (omega (arith, wrong empty (creates 0), create-counts c is, wrong empty no-kind-at-all, refusal-counts c is))
