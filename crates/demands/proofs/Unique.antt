@@ -15,6 +15,7 @@ use Rattle.table.specs.Table.{empty}
 use Rattle.table.specs.Sound.{Sound}
 use Rattle.table.proofs.Reflect.{same-test}
 use Rattle.locks.specs.declared.Record.{Record}
+use Rattle.locks.specs.declared.Answer.{Answer}
 use Rattle.locks.specs.declared.Done.{Done}
 use Rattle.locks.specs.declared.queries.RunningAnswer.{RunningAnswer}
 use Rattle.locks.specs.declared.queries.ThreadAnswer.{ThreadAnswer}
@@ -41,6 +42,10 @@ one a b p q = p ∙ sym q
 -- the step: number, running thread, count and the whole table
 pub step-one : (t : Table) (e : Record) (d d′ : Done) → d ≡ answerOf t e → d′ ≡ answerOf t e → d ≡ d′
 step-one t e = one
+
+-- the step of a lent table: the answer, and the table afterwards
+pub lent-one : (t : Table) (e : Record) (r r′ : Answer) (u u′ : Table) → (r ≡ answerOf t e .answer) × (u ≡ answerOf t e .table) → (r′ ≡ answerOf t e .answer) × (u′ ≡ answerOf t e .table) → (r ≡ r′) × (u ≡ u′)
+lent-one t e r r′ u u′ p q = (one r r′ (p .0) (q .0), one u u′ (p .1) (q .1))
 
 -- the three queries
 pub running-one : (t : Table) (a a′ : RunningAnswer) → a ≡ running-answer t → a′ ≡ running-answer t → a ≡ a′

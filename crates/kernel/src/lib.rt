@@ -1,0 +1,56 @@
+// The calls of a kernel that keeps its only table and lends it: each calls the by-value function and, where the table changes, stores it
+// back. Exported for C; include/locktable.h declares them.
+ghost use mathlib.Core.Path.{_≡_};
+ghost use Rattle.table.specs.Table.{empty};
+ghost use Rattle.locks.specs.Answers.{answerOf};
+ghost use Rattle.locks.specs.Queries.{running-answer, thread-answer, resource-answer};
+use locks::Answer;
+use locks::Record;
+use locks::queries::ResourceAnswer;
+use locks::queries::RunningAnswer;
+use locks::queries::ThreadAnswer;
+use locks::queries::resource_of;
+use locks::queries::running_of;
+use locks::queries::thread_of;
+use locks::step::step;
+use table::Table;
+
+// An event: the lent table is the step's afterwards.
+#[no_mangle]
+pub extern "C" fn locktable_step(t: &mut Table, e: Record) -> Answer
+    ensures { λ r. ⌜ (r ≡ answerOf (now (t .entry)) e .answer) × (now (t .exit) ≡ answerOf (now (t .entry)) e .table) ⌝ }
+{
+    let done = step(*t, e);
+    *t = done.table;
+    done.answer
+}
+
+// A shipment starts: the lent table, whatever it held, is the empty one.
+#[no_mangle]
+pub extern "C" fn locktable_empty(t: &mut Table)
+    ensures { λ _. ⌜ now (t .exit) ≡ empty ⌝ }
+{
+    *t = Table::empty();
+}
+
+// The queries: the lent table is as it was.
+#[no_mangle]
+pub extern "C" fn locktable_running(t: &Table) -> RunningAnswer
+    ensures { λ r. ⌜ (r ≡ running-answer (now (t .entry))) × (now (t .exit) ≡ now (t .entry)) ⌝ }
+{
+    running_of(*t)
+}
+
+#[no_mangle]
+pub extern "C" fn locktable_thread(t: &Table, thread: u8) -> ThreadAnswer
+    ensures { λ r. ⌜ (r ≡ thread-answer (now (t .entry)) thread) × (now (t .exit) ≡ now (t .entry)) ⌝ }
+{
+    thread_of(*t, thread)
+}
+
+#[no_mangle]
+pub extern "C" fn locktable_resource(t: &Table, resource: u8) -> ResourceAnswer
+    ensures { λ r. ⌜ (r ≡ resource-answer (now (t .entry)) resource) × (now (t .exit) ≡ now (t .entry)) ⌝ }
+{
+    resource_of(*t, resource)
+}
