@@ -26,7 +26,7 @@ use Rattle.locks.specs.Answers.{accepted as answer-accepted, refused as answer-
 use Rattle.locks.specs.Queries.{running-answer, thread-answer, resource-answer}
 use Rattle.locks.proofs.Exactly.{exactly, given-none}
 use Rattle.locks.proofs.Answered.{refused-is, let-through}
-use Rattle.demands.specs.Calls.{Any-table, Any-record, Calls, As-stated}
+use Rattle.demands.specs.Calls.{Any-table, Any-record, Calls, Typed, As-stated}
 use Rattle.demands.specs.Runs.{table-after, number-of, Writes, create, exit, set-anew, request, release, History, none-yet, accepted, Well-formed}
 use Rattle.demands.specs.Told.{Names-running}
 use Rattle.demands.proofs.InMemory.{right-any}
@@ -64,35 +64,38 @@ empty-one = one
 pub sound-one : (t : Table) (b b′ : Bool) → (b ≡ true) ↔ Sound t → (b′ ≡ true) ↔ Sound t → b ≡ b′
 sound-one t b b′ = same-test
 
--- The wrong schedulers, each any functions in the places of the calls.
+-- The wrong schedulers, each any functions in the places of the calls, for any table and any record.
 
 -- One that refuses everything does not meet demand 2.
 abbrev pub Refuses-everything : Calls → Type 0
-Refuses-everything c = (t : Table) (e : Record) → c .step t e .answer .number ≢ 0
+Refuses-everything c = (t : Table) (e : Record) → Any-table t → Any-record e → c .step t e .answer .number ≢ 0
 
 -- One that always names one thread, in the step's answers or in the running query's, does not.
 abbrev pub Names-one : Calls → ℕ → Type 0
-Names-one c r = (t : Table) (e : Record) → c .step t e .answer .running ≡ r
+Names-one c r = (t : Table) (e : Record) → Any-table t → Any-record e → c .step t e .answer .running ≡ r
 
 abbrev pub Query-names-one : Calls → ℕ → Type 0
-Query-names-one c r = (t : Table) → c .running-of t .running ≡ r
+Query-names-one c r = (t : Table) → Any-table t → c .running-of t .running ≡ r
 
 -- One that accepts and touches nothing does not.
 abbrev pub Touches-nothing : Calls → Type 0
-Touches-nothing c = (t : Table) (e : Record) → (c .step t e .answer .number ≡ 0) × (c .step t e .table ≡ t)
+Touches-nothing c = (t : Table) (e : Record) → Any-table t → Any-record e → (c .step t e .answer .number ≡ 0) × (c .step t e .table ≡ t)
 
 -- One that, whatever it does with the first event, afterwards only answers 0 does not.
 abbrev pub Then-answers-0 : Calls → Type 0
-Then-answers-0 c = (t : Table) (e : Record) → t ≢ empty → c .step t e .answer .number ≡ 0
+Then-answers-0 c = (t : Table) (e : Record) → Any-table t → Any-record e → t ≢ empty → c .step t e .answer .number ≡ 0
 
 -- One whose count is anywhere another than that of the section on re-evaluations does not do what the calls ensure; nor does one whose count is always the same.
 abbrev pub Invents-a-count : Calls → Type 0
 Invents-a-count c = (t : Table) × (e : Record) × Any-table t × Any-record e × (c .step t e .answer .count ≢ answerOf t e .answer .count)
 
 abbrev pub Counts-always : Calls → ℕ → Type 0
-Counts-always c n = (t : Table) (e : Record) → c .step t e .answer .count ≡ n
+Counts-always c n = (t : Table) (e : Record) → Any-table t → Any-record e → c .step t e .answer .count ≡ n
 
--- How each fails. The first Create of x is well-formed, and the rules admit it.
+-- How each fails. The empty table is one, the first Create of x is well-formed, and the rules admit it.
+
+memory : Any-table empty
+memory = right-any empty (start-reached .right)
 
 creates : ℕ → Record
 creates x = record { kind = 1; thread = x; argument = 0; zero = 0 }
@@ -146,27 +149,27 @@ other r = go (ℕ-discrete r 0)
 
 -- at the first Create
 pub refuses-everything : (c : Calls) → Refuses-everything c → ¬ Demand-2 c
-refuses-everything c wrong d = wrong empty (creates 0) (first-accepted c d 0 (omega arith))
+refuses-everything c wrong d = wrong empty (creates 0) memory (any 0 (omega arith)) (first-accepted c d 0 (omega arith))
 
 -- at the first Create of a thread that it does not name
 pub names-one : (c : Calls) (r : ℕ) → Names-one c r → ¬ Demand-2 c
 names-one c r wrong d = let o = other r in
-    o .2 (sym (wrong empty (creates (o .0))) ∙ x-is-named c d (o .0) (o .1) (c .step empty (creates (o .0)) .answer .running) (at-first c d .answer-names (creates (o .0)) (any (o .0) (o .1)) (Create (o .0) 0 ∷ []) (first-history c d (o .0) (o .1))))
+    o .2 (sym (wrong empty (creates (o .0)) memory (any (o .0) (o .1))) ∙ x-is-named c d (o .0) (o .1) (c .step empty (creates (o .0)) .answer .running) (at-first c d .answer-names (creates (o .0)) (any (o .0) (o .1)) (Create (o .0) 0 ∷ []) (first-history c d (o .0) (o .1))))
 
-pub query-names-one : (c : Calls) (r : ℕ) → Query-names-one c r → ¬ Demand-2 c
-query-names-one c r wrong d = let o = other r in let t = table-after c (creates (o .0) ∷ []) in
-    o .2 (sym (wrong t) ∙ x-is-named c d (o .0) (o .1) (c .running-of t .running) (after-first c d (o .0) (o .1) .running-query .1))
+pub query-names-one : (c : Calls) (r : ℕ) → Typed c → Query-names-one c r → ¬ Demand-2 c
+query-names-one c r typed wrong d = let o = other r in let t = table-after c (creates (o .0) ∷ []) in
+    o .2 (sym (wrong t (typed empty (creates (o .0)) memory (any (o .0) (o .1)))) ∙ x-is-named c d (o .0) (o .1) (c .running-of t .running) (after-first c d (o .0) (o .1) .running-query .1))
 
 -- at the next query: of one table it cannot say that nobody runs, and that somebody does
 pub touches-nothing : (c : Calls) → Touches-nothing c → ¬ Demand-2 c
 touches-nothing c wrong d = ⊎-elim (λ w. w .1 .among .0) (λ w. absurd (omega (arith, w .0, then-0))) (at-first c d .running-query .1)
   where
     then-0 : c .running-of empty .running ≡ 0
-    then-0 = x-is-named c d 0 (omega arith) (c .running-of empty .running) (subst (λ (t : Table). Names-running (Create 0 0 ∷ []) (c .running-of t .running)) (wrong empty (creates 0) .1) (after-first c d 0 (omega arith) .running-query .1))
+    then-0 = x-is-named c d 0 (omega arith) (c .running-of empty .running) (subst (λ (t : Table). Names-running (Create 0 0 ∷ []) (c .running-of t .running)) (wrong empty (creates 0) memory (any 0 (omega arith)) .1) (after-first c d 0 (omega arith) .running-query .1))
 
 -- at the second event, another Create of the same thread
-pub then-answers-0 : (c : Calls) → Then-answers-0 c → ¬ Demand-2 c
-then-answers-0 c wrong d = twice (subst (step (Create 0 0 ∷ [])) (is-create (Create 0 0 ∷ []) 0 (w .1)) (w .2 .0 (wrong t (creates 0) not-empty)))
+pub then-answers-0 : (c : Calls) → Typed c → Then-answers-0 c → ¬ Demand-2 c
+then-answers-0 c typed wrong d = twice (subst (step (Create 0 0 ∷ [])) (is-create (Create 0 0 ∷ []) 0 (w .1)) (w .2 .0 (wrong t (creates 0) (typed empty (creates 0) memory (any 0 (omega arith))) (any 0 (omega arith)) not-empty)))
   where
     t : Table
     t = table-after c (creates 0 ∷ [])
@@ -188,10 +191,11 @@ invents-a-count c (t, e, any-t, any-e, wrong) is = wrong (ap (λ (x : Done). x .
 no-kind-at-all : Record
 no-kind-at-all = record { kind = 0; thread = 0; argument = 0; zero = 0 }
 
-module _ (c : Calls) (is : As-stated c) where
-  memory : Any-table empty
-  memory = right-any empty (start-reached .right)
+of-no-kind : Any-record no-kind-at-all
+unfolding no-kind-at-all
+of-no-kind = record { kind = omega arith; thread = omega arith; argument = omega arith; zero = omega arith }
 
+module _ (c : Calls) (is : As-stated c) where
   number : (e : Record) → Any-record e → c .step empty e .answer .number ≡ lowest (refusals empty e)
   number e a = ap (λ (x : Done). x .answer .number) (is .step empty e memory a) ∙ number-is empty e (start-reached .right .0)
 
@@ -205,9 +209,9 @@ module _ (c : Calls) (is : As-stated c) where
   refusal-counts : c .step empty no-kind-at-all .answer .count ≡ 0
   unfolding no-kind-at-all answer-refused
   refusal-counts = ap (λ (x : Done). x .answer .count)
-      (is .step empty no-kind-at-all memory (record { kind = omega arith; thread = omega arith; argument = omega arith; zero = omega arith }) ∙ refused-is empty no-kind-at-all
+      (is .step empty no-kind-at-all memory of-no-kind ∙ refused-is empty no-kind-at-all
       (λ z. given-none empty no-kind-at-all (lowest (refusals empty no-kind-at-all)) (exactly empty no-kind-at-all (start-reached .right .0)) z 2 (no-kind (λ w. absurd (omega (arith, w .0))))))
 
 -- at the first Create, or at the first refusal
 pub counts-always : (c : Calls) (n : ℕ) → Counts-always c n → ¬ As-stated c
-counts-always c n wrong is = absurd (omega (arith, wrong empty (creates 0), create-counts c is, wrong empty no-kind-at-all, refusal-counts c is))
+counts-always c n wrong is = absurd (omega (arith, wrong empty (creates 0) memory (any 0 (omega arith)), create-counts c is, wrong empty no-kind-at-all memory of-no-kind, refusal-counts c is))

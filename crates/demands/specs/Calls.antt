@@ -43,6 +43,10 @@ pub record Calls : Type 0 where
   pub thread-of : Table → ℕ → ThreadAnswer
   pub resource-of : Table → ℕ → ResourceAnswer
 
+-- They are of the calls' types: what the step gives back is a table.
+abbrev pub Typed : Calls → Type 0
+Typed c = (t : Table) (e : Record) → Any-table t → Any-record e → Any-table (c .step t e .table)
+
 -- They do what the public calls ensure, word for word (the clauses stand in locks/src/step.rt and locks/src/queries.rt): for any table and any bytes.
 pub record As-stated (c : Calls) : Type 0 where
   pub step : (t : Table) (e : Record) → Any-table t → Any-record e → c .step t e ≡ answerOf t e
