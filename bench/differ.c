@@ -1,0 +1,328 @@
+/* The differential test: the library, fast.c and the model get the same tables and records by chance. After every call the answers
+   and all bytes of the tables must be equal. `differ --help` says the rest. */
+#include <stdio.h>
+#include <stdlib.h>
+#include <string.h>
+#include <time.h>
+#include "draw.h"
+#include "model.h"
+
+enum { NUMBERS = 12, KINDS = 7, ANSWER = 6, COUNTS = 17 };
+enum call { STEP, EMPTY, RUNNING, THREAD, RESOURCE, CALLS };
+static const char *const call_names[CALLS] = { "step", "empty", "running", "thread", "resource" };
+
+struct side {
+    const char *name;
+    struct locktable_answer (*step)(struct locktable *, struct locktable_record);
+    void (*empty)(struct locktable *);
+    struct locktable_running_answer (*running)(const struct locktable *);
+    struct locktable_thread_answer (*thread)(const struct locktable *, uint8_t);
+    struct locktable_resource_answer (*resource)(const struct locktable *, uint8_t);
+};
+
+/* The model is first: it decides. */
+static const struct side sides[] = {
+    { "model", model_step, model_empty, model_running, model_thread, model_resource },
+    { "fast", fast_step, fast_empty, fast_running, fast_thread, fast_resource },
+    { "library", locktable_step, locktable_empty, locktable_running, locktable_thread, locktable_resource },
+};
+enum { SIDES = sizeof sides / sizeof sides[0] };
+
+static struct {
+    unsigned long long seed, test, event;
+    unsigned long long calls[CALLS], steps[KINDS][NUMBERS], counts[COUNTS], damaged[2], broken[2], made[2];
+} run;
+
+/* Mixed twice, so that runs of neighbouring seeds have no test in common. */
+static unsigned long long seed_of(unsigned long long n) { return mix(mix(run.seed) + n); }
+
+/* One call of one side, its answer as numbers, so that padding is not compared. The queries get the record's thread byte. */
+static void ask(const struct side *s, enum call call, struct locktable *t, struct locktable_record e, unsigned answer[ANSWER])
+{
+    memset(answer, 0, ANSWER * sizeof answer[0]);
+    if (call == STEP) {
+        struct locktable_answer a = s->step(t, e);
+        answer[0] = a.number, answer[1] = a.running, answer[2] = a.count;
+    } else if (call == EMPTY) {
+        s->empty(t);
+    } else if (call == RUNNING) {
+        struct locktable_running_answer a = s->running(t);
+        answer[0] = a.number, answer[1] = a.running;
+    } else if (call == THREAD) {
+        struct locktable_thread_answer a = s->thread(t, e.thread);
+        answer[0] = a.number, answer[1] = a.priority, answer[2] = a.time;
+        answer[3] = a.current_priority, answer[4] = a.current_time, answer[5] = a.waits_for;
+    } else {
+        struct locktable_resource_answer a = s->resource(t, e.thread);
+        answer[0] = a.number, answer[1] = a.holder, answer[2] = a.waiters;
+    }
+}
+
+static void print_answer(const char *name, const unsigned answer[ANSWER])
+{
+    printf("  %-8s answers", name);
+    for (int i = 0; i < ANSWER; i++)
+        printf(" %u", answer[i]);
+    printf("\n");
+}
+
+static void print_bytes(const char *title, const struct locktable *t)
+{
+    printf("  %s", title);
+    for (size_t i = 0; i < sizeof *t; i++)
+        printf("%s%02x", i % 64 == 0 ? "\n    " : "", ((const uint8_t *)t)[i]);
+    printf("\n");
+}
+
+_Noreturn static void fail(const struct side *s, enum call call, const struct locktable *given, struct locktable_record e,
+                           unsigned answers[2][ANSWER], const struct locktable after[2])
+{
+    const uint8_t *want = (const uint8_t *)&after[0], *got = (const uint8_t *)&after[1];
+    printf("FAILED: %s differs from the model. seed %llu, table %llu (its seed %llu), event %llu\n", s->name, run.seed, run.test,
+           seed_of(run.test), run.event);
+    printf("  call %s, record %u %u %u %u\n", call_names[call], e.kind, e.thread, e.argument, e.zero);
+    print_answer("model", answers[0]);
+    print_answer(s->name, answers[1]);
+    for (size_t i = 0; i < sizeof *given; i++)
+        if (want[i] != got[i])
+            printf("  byte %zu of the table: model %u, %s %u\n", i, want[i], s->name, got[i]);
+    print_bytes("the table given:", given);
+    printf("  repeat it with --seed %llu --only %llu\n", run.seed, run.test);
+    exit(1);
+}
+
+/* All sides on copies of one table; the model's result stays in `t` and `answer`. */
+static void compare(enum call call, struct locktable *t, struct locktable_record e, unsigned answer[ANSWER])
+{
+    struct locktable given = *t, after[2];
+    unsigned answers[2][ANSWER];
+    after[0] = given;
+    ask(&sides[0], call, &after[0], e, answers[0]);
+    for (int i = 1; i < SIDES; i++) {
+        after[1] = given;
+        ask(&sides[i], call, &after[1], e, answers[1]);
+        if (memcmp(answers[0], answers[1], sizeof answers[0]) != 0 || memcmp(&after[0], &after[1], sizeof after[0]) != 0)
+            fail(&sides[i], call, &given, e, answers, after);
+    }
+    *t = after[0];
+    memcpy(answer, answers[0], sizeof answers[0]);
+    run.calls[call]++;
+    if (call == STEP) {
+        run.steps[e.kind < KINDS ? e.kind : KINDS - 1][answer[0]]++;
+        run.counts[answer[2]]++;
+    }
+}
+
+static void compare_query(enum call call, struct locktable *t, unsigned argument)
+{
+    unsigned answer[ANSWER];
+    compare(call, t, (struct locktable_record){ 0, (uint8_t)argument, 0, 0 }, answer);
+}
+
+static void compare_some_queries(struct dice *d, struct locktable *t)
+{
+    compare_query(RUNNING, t, 0);
+    compare_query(THREAD, t, roll(d, 8) == 0 ? roll(d, 256) : roll(d, 33));
+    compare_query(RESOURCE, t, roll(d, 8) == 0 ? roll(d, 256) : roll(d, 17));
+}
+
+static void compare_all_queries(struct locktable *t)
+{
+    compare_query(RUNNING, t, 0);
+    for (unsigned i = 0; i <= 33; i++)
+        compare_query(THREAD, t, i);
+    for (unsigned i = 0; i <= 17; i++)
+        compare_query(RESOURCE, t, i);
+}
+
+/* A record and the queries on a table that stands alone. */
+static unsigned compare_lone(struct dice *d, const struct mood *m, struct locktable t)
+{
+    unsigned answer[ANSWER];
+    compare_some_queries(d, &t);
+    compare(STEP, &t, draw_record(d, m, &t, model_running(&t).running), answer);
+    return answer[0];
+}
+
+static void compare_damaged(struct dice *d, const struct mood *m, struct locktable t)
+{
+    struct locktable bytes = t;
+    damage(d, &bytes);
+    run.damaged[compare_lone(d, m, bytes) == 1]++;
+    break_a_rule(d, &t);
+    run.broken[compare_lone(d, m, t) == 1]++;
+}
+
+static void history(struct dice *d, const struct mood *m, struct locktable *t, unsigned events)
+{
+    unsigned answer[ANSWER] = { 0, model_running(t).running };
+    for (run.event = 1; run.event <= events; run.event++) {
+        compare(STEP, t, draw_record(d, m, t, answer[1]), answer);
+        if (roll(d, 4) == 0)
+            compare_some_queries(d, t);
+        if (roll(d, 2) == 0)
+            compare_damaged(d, m, *t);
+    }
+}
+
+/* A chain of holders and a request somewhere in it: by chance alone the walk is seldom longer than two. */
+static void start_with_chain(struct dice *d, struct locktable *t)
+{
+    unsigned length = 1 + roll(d, 16), answer[ANSWER];
+    struct chain c;
+    make_chain(d, length, roll(d, 2) == 0 ? 100 : 30, t, &c);
+    compare(STEP, t, (struct locktable_record){ 4, c.thread[31], c.resource[roll(d, length)], 0 }, answer);
+}
+
+/* One table in two starts empty, one in four is a chain, one in four a made one if it is sound. */
+static void start(struct dice *d, struct mood *m, struct locktable *t)
+{
+    unsigned which = roll(d, 4);
+    make_table(d, m, t);
+    run.made[compare_lone(d, m, *t) == 1]++;
+    if (which == 0) {
+        start_with_chain(d, t);
+        m->threads = 32;
+        m->resources = 16;
+    } else if (which > 1 || !model_sound(t)) {
+        fill_with_noise(d, t); /* so that `empty` has something to clear */
+        compare_query(EMPTY, t, 0);
+    }
+    if (roll(d, 8) == 0)
+        t->clock = (uint16_t)(65535 - roll(d, 40));
+}
+
+/* Test number n: one history, with damaged tables on the way; then noise. */
+static void test(unsigned long long n)
+{
+    struct dice d = { seed_of(n) };
+    struct mood m = draw_mood(&d);
+    struct locktable t;
+    run.test = n;
+    run.event = 0;
+    start(&d, &m, &t);
+    history(&d, &m, &t, 1 + roll(&d, 120));
+    compare_all_queries(&t);
+    fill_with_noise(&d, &t);
+    compare_lone(&d, &m, t);
+}
+
+static void print_totals(void)
+{
+    static const char *const kinds[KINDS] = { "kind 0", "Create", "Exit", "Set", "P", "V", "kind 6 up" };
+    printf("steps by kind and refusal:\n%-10s", "");
+    for (int k = 0; k < NUMBERS; k++)
+        printf(" %8d", k);
+    printf("\n");
+    for (int i = 0; i < KINDS; i++) {
+        printf("%-10s", kinds[i]);
+        for (int k = 0; k < NUMBERS; k++)
+            printf(" %8llu", run.steps[i][k]);
+        printf("\n");
+    }
+    printf("steps by count:");
+    for (int i = 0; i < COUNTS; i++)
+        printf(" %llu", run.counts[i]);
+    printf("\ncalls:");
+    for (int i = 0; i < CALLS; i++)
+        printf(" %s %llu", call_names[i], run.calls[i]);
+    printf("\ntables with 1 to 4 bytes changed: %llu unsound, %llu still sound\n", run.damaged[1], run.damaged[0]);
+    printf("tables with at most one rule broken: %llu unsound, %llu still sound\n", run.broken[1], run.broken[0]);
+    printf("made tables: %llu unsound, %llu sound\n", run.made[1], run.made[0]);
+}
+
+/* A run that does not meet every refusal tests less than it says. */
+static int all_numbers_met(void)
+{
+    int met = 1;
+    for (int k = 0; k < NUMBERS; k++) {
+        unsigned long long n = 0;
+        for (int i = 0; i < KINDS; i++)
+            n += run.steps[i][k];
+        if (n == 0) {
+            printf("FAILED: no step was answered with %d\n", k);
+            met = 0;
+        }
+    }
+    return met;
+}
+
+static int tests(unsigned long long from, unsigned long long to)
+{
+    time_t last = time(0);
+    printf("seed %llu, tests %llu to %llu\n", run.seed, from, to);
+    fflush(stdout);
+    for (unsigned long long n = from; n <= to; n++) {
+        test(n);
+        if (time(0) >= last + 5) {
+            last = time(0);
+            fprintf(stderr, "  test %llu of %llu, %llu steps\n", n, to, run.calls[STEP]);
+        }
+    }
+    print_totals();
+    if (from != to && !all_numbers_met())
+        return 1;
+    printf("all answers and all tables equal\n");
+    return 0;
+}
+
+/* The listing of lockdrill for one file, by one side. */
+static int drill(const struct side *s, const char *path)
+{
+    FILE *f = fopen(path, "rb");
+    struct locktable t;
+    uint8_t b[4];
+    size_t got;
+    if (f == 0) {
+        perror(path);
+        return 2;
+    }
+    s->empty(&t);
+    printf("n code run count\n");
+    for (unsigned n = 1; (got = fread(b, 1, 4, f)) == 4; n++) {
+        struct locktable_answer a = s->step(&t, (struct locktable_record){ b[0], b[1], b[2], b[3] });
+        if (a.running < 32)
+            printf("%u %u %u %u\n", n, a.number, a.running, a.count);
+        else
+            printf("%u %u - %u\n", n, a.number, a.count);
+    }
+    if (got > 0)
+        printf("tail %zu\n", got);
+    fclose(f);
+    return 0;
+}
+
+static int drills(const char *name, char **paths)
+{
+    for (int i = 0; i < SIDES; i++)
+        if (strcmp(sides[i].name, name) == 0) {
+            int status = 0;
+            for (; status == 0 && *paths != 0; paths++)
+                status = drill(&sides[i], *paths);
+            return status;
+        }
+    fprintf(stderr, "differ: no side %s\n", name);
+    return 2;
+}
+
+int main(int argc, char **argv)
+{
+    unsigned long long from = 1, to = 100;
+    run.seed = (unsigned long long)time(0);
+    for (int i = 1; i < argc; i++) {
+        const char *value = i + 1 < argc ? argv[i + 1] : 0;
+        if (strcmp(argv[i], "--drill") == 0 && value != 0)
+            return drills(value, argv + i + 2);
+        if (strcmp(argv[i], "--seed") == 0 && value != 0)
+            run.seed = strtoull(value, 0, 10), i++;
+        else if (strcmp(argv[i], "--tests") == 0 && value != 0)
+            to = strtoull(value, 0, 10), i++;
+        else if (strcmp(argv[i], "--only") == 0 && value != 0)
+            from = to = strtoull(value, 0, 10), i++;
+        else {
+            printf("differ [--seed N] [--tests N] [--only N]\ndiffer --drill model|fast|library FILE..\n");
+            return strcmp(argv[i], "--help") == 0 ? 0 : 2;
+        }
+    }
+    return tests(from, to);
+}

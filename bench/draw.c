@@ -1,0 +1,268 @@
+#include <stdbool.h>
+#include <string.h>
+#include "draw.h"
+#include "model.h"
+
+enum { THREADS = 32, RESOURCES = 16, PLACES = 32, NOBODY = 32 };
+enum { CREATE = 1, EXIT = 2, SET = 3, P = 4, V = 5 };
+
+/* Where C would leave the order of two rolls open they stand in two statements: a seed means the same to every compiler. */
+
+/* splitmix64 */
+uint64_t mix(uint64_t x)
+{
+    x += 0x9e3779b97f4a7c15u;
+    x = (x ^ x >> 30) * 0xbf58476d1ce4e5b9u;
+    x = (x ^ x >> 27) * 0x94d049bb133111ebu;
+    return x ^ x >> 31;
+}
+
+unsigned roll(struct dice *d, unsigned below)
+{
+    d->state = mix(d->state);
+    return (unsigned)((d->state >> 32) % below);
+}
+
+static bool chance(struct dice *d, unsigned percent) { return roll(d, 100) < percent; }
+
+struct mood draw_mood(struct dice *d)
+{
+    static const unsigned priorities[] = { 1, 2, 3, 8, 256 }, junk[] = { 0, 2, 10, 50 };
+    struct mood m;
+    m.threads = chance(d, 50) ? 2 + roll(d, 6) : 2 + roll(d, 31);
+    m.resources = chance(d, 50) ? 1 + roll(d, 4) : 1 + roll(d, 16);
+    m.priorities = priorities[roll(d, 5)];
+    m.junk_percent = junk[roll(d, 4)];
+    return m;
+}
+
+/* Few priorities give many ties; the ends 0 and 255 come up in every choice but one. */
+static uint8_t draw_priority(struct dice *d, const struct mood *m)
+{
+    return m->priorities == 1 ? 7 : (uint8_t)(roll(d, m->priorities) * 255 / (m->priorities - 1));
+}
+
+static struct locktable_record junk_record(struct dice *d)
+{
+    struct locktable_record e;
+    e.kind = (uint8_t)roll(d, chance(d, 80) ? 7 : 256);
+    e.thread = (uint8_t)roll(d, chance(d, 80) ? 34 : 256);
+    e.argument = (uint8_t)roll(d, chance(d, 60) ? 18 : 256);
+    e.zero = (uint8_t)roll(d, chance(d, 80) ? 1 : 256);
+    return e;
+}
+
+/* A resource that the thread holds, if there is one. */
+static unsigned held_resource(struct dice *d, const struct locktable *t, unsigned thread)
+{
+    unsigned start = roll(d, RESOURCES);
+    for (unsigned i = 0; i < RESOURCES; i++) {
+        unsigned r = (start + i) % RESOURCES;
+        if (t->length[r] > 0 && t->queue[PLACES * r] == thread)
+            return r;
+    }
+    return start;
+}
+
+static struct locktable_record create_record(struct dice *d, const struct mood *m, const struct locktable *t)
+{
+    unsigned start = roll(d, m->threads), thread = start;
+    for (unsigned i = 0; i < m->threads && t->live[thread]; i++)
+        thread = (start + i) % m->threads;
+    return (struct locktable_record){ CREATE, (uint8_t)thread, draw_priority(d, m), 0 };
+}
+
+/* A resource that another thread holds, if there is one: without such requests there is little contention. */
+static unsigned taken_resource(struct dice *d, const struct mood *m, const struct locktable *t, unsigned thread)
+{
+    unsigned start = roll(d, m->resources);
+    for (unsigned i = 0; i < m->resources; i++) {
+        unsigned r = (start + i) % m->resources;
+        if (t->length[r] > 0 && t->queue[PLACES * r] != thread)
+            return r;
+    }
+    return start;
+}
+
+static struct locktable_record own_record(struct dice *d, const struct mood *m, const struct locktable *t, unsigned thread)
+{
+    unsigned what = roll(d, 100);
+    struct locktable_record e = { P, (uint8_t)thread, (uint8_t)roll(d, m->resources), 0 };
+    if (what < 28)
+        e.kind = V, e.argument = (uint8_t)held_resource(d, t, thread);
+    else if (what < 30)
+        e.kind = V;
+    else if (what < 45)
+        e.kind = SET, e.argument = draw_priority(d, m);
+    else if (what < 52)
+        e.kind = EXIT, e.argument = 0;
+    else if (what < 75)
+        e.argument = (uint8_t)taken_resource(d, m, t, thread);
+    return e;
+}
+
+struct locktable_record draw_record(struct dice *d, const struct mood *m, const struct locktable *t, unsigned running)
+{
+    if (chance(d, m->junk_percent))
+        return junk_record(d);
+    if (running >= THREADS || chance(d, 25))
+        return create_record(d, m, t);
+    return own_record(d, m, t, chance(d, 97) ? running : roll(d, m->threads));
+}
+
+struct locktable_record draw_busy_record(struct dice *d, const struct mood *m, const struct locktable *t, unsigned running)
+{
+    unsigned live = 0;
+    for (int i = 0; i < THREADS; i++)
+        live += t->live[i];
+    return live < m->threads ? create_record(d, m, t) : own_record(d, m, t, running);
+}
+
+void damage(struct dice *d, struct locktable *t)
+{
+    uint8_t *bytes = (uint8_t *)t;
+    for (unsigned left = 1 + roll(d, 4); left > 0; left--) {
+        /* Half of the damage away from the queues, which are most of the bytes. */
+        unsigned at = chance(d, 50) ? roll(d, sizeof *t) : chance(d, 85) ? roll(d, 226) : sizeof *t - 1 - roll(d, RESOURCES);
+        switch (roll(d, 4)) {
+        case 0: bytes[at] = (uint8_t)roll(d, 256); break;
+        case 1: bytes[at] ^= (uint8_t)(1u << roll(d, 8)); break;
+        case 2: bytes[at] = (uint8_t)(bytes[at] + (chance(d, 50) ? 1 : 255)); break;
+        default: bytes[at] = bytes[roll(d, sizeof *t)]; break;
+        }
+    }
+}
+
+/* Live threads with times below the clock; a time may come twice, by a small chance. */
+static void make_slots(struct dice *d, const struct mood *m, struct locktable *t)
+{
+    unsigned start = 1 + roll(d, 65000), gap = 1 + roll(d, 16), next = roll(d, start), dead_percent = chance(d, 50) ? 0 : 10;
+    t->clock = (uint16_t)(start + 32 * gap);
+    for (unsigned i = 0, at = roll(d, m->threads); i < m->threads; i++, at = (at + 7) % m->threads) {
+        if (t->live[at] || chance(d, dead_percent))
+            continue;
+        t->live[at] = 1;
+        t->priority[at] = draw_priority(d, m);
+        t->time[at] = (uint16_t)next;
+        next += roll(d, 400) == 0 ? 0 : 1 + roll(d, gap);
+    }
+}
+
+static void put(struct locktable *t, unsigned resource, unsigned thread)
+{
+    uint8_t *queue = t->queue + PLACES * resource;
+    if (t->length[resource] == PLACES || memchr(queue, (int)thread, t->length[resource]) != 0)
+        return;
+    queue[t->length[resource]++] = (uint8_t)thread;
+}
+
+static void swap_entries(struct locktable *t, unsigned resource, unsigned a, unsigned b)
+{
+    uint8_t *queue = t->queue + PLACES * resource, kept = queue[a];
+    queue[a] = queue[b];
+    queue[b] = kept;
+}
+
+static void kill(struct locktable *t, unsigned thread)
+{
+    t->live[thread] = t->priority[thread] = t->current_priority[thread] = 0;
+    t->time[thread] = t->current_time[thread] = 0;
+}
+
+/* Of dead slots, lives, spare places and lengths: nothing else depends on them. */
+static void break_a_plain_rule(struct dice *d, struct locktable *t, unsigned thread, unsigned resource)
+{
+    unsigned length = t->length[resource], spare = PLACES * resource + length + roll(d, PLACES - length);
+    switch (roll(d, 6)) {
+    case 0: t->priority[thread] = t->current_priority[thread] = (uint8_t)roll(d, 256); break;
+    case 1: t->time[thread] = t->current_time[thread] = (uint16_t)roll(d, t->clock + 1u); break;
+    case 2: t->live[thread] = (uint8_t)(t->live[thread] + 2 * roll(d, 128)); break;
+    case 3: t->queue[spare] = (uint8_t)(1 + roll(d, 255)); break;
+    case 4: t->length[resource] = (uint8_t)(length + roll(d, 256 - length)); break;
+    default: t->current_time[thread] = t->time[roll(d, THREADS)]; break;
+    }
+}
+
+/* Of times and queues. The current precedences are then those of the new table, so that they do not give it away. */
+static void break_a_queue_rule(struct dice *d, struct locktable *t, unsigned thread, unsigned resource)
+{
+    unsigned length = t->length[resource], place = roll(d, length > 0 ? length : 1);
+    switch (roll(d, 5)) {
+    case 0: t->time[thread] = t->time[roll(d, THREADS)]; break;
+    case 1: t->clock = (uint16_t)(t->time[thread] + roll(d, 2)); break;
+    case 2: put(t, resource, thread); break;
+    case 3: kill(t, length > 0 ? t->queue[PLACES * resource + place] : thread); break;
+    default: swap_entries(t, resource, place, roll(d, length > 0 ? length : 1)); break;
+    }
+    model_set_currents(t);
+}
+
+void break_a_rule(struct dice *d, struct locktable *t)
+{
+    unsigned thread = roll(d, THREADS), resource = roll(d, RESOURCES);
+    /* A queue that is in use, if one comes up soon. */
+    for (int i = 0; i < 8 && t->length[resource] == 0; i++)
+        resource = roll(d, RESOURCES);
+    if (t->length[resource] == PLACES || chance(d, 50))
+        break_a_queue_rule(d, t, thread, resource);
+    else
+        break_a_plain_rule(d, t, thread, resource);
+}
+
+void make_table(struct dice *d, const struct mood *m, struct locktable *t)
+{
+    memset(t, 0, sizeof *t);
+    make_slots(d, m, t);
+    /* Holders that come in the order of their ids, and waiters that go to resources of later ids, close no circle. */
+    bool circles = chance(d, 60);
+    for (unsigned r = 0; r < m->resources; r++) {
+        unsigned h = circles ? roll(d, m->threads) : (2 * r + roll(d, 2)) % m->threads;
+        if (t->live[h] && chance(d, 85))
+            put(t, r, h);
+    }
+    for (unsigned i = 0; i < m->threads; i++) {
+        unsigned r = roll(d, m->resources);
+        for (unsigned times = roll(d, 60) == 0 ? 2 : 1; times > 0; times--, r = (r + 1) % m->resources)
+            if (t->live[i] && chance(d, 80) && t->length[r] > 0 && (circles || t->queue[PLACES * r] > i))
+                put(t, r, i);
+    }
+    model_set_currents(t);
+}
+
+static void shuffle(struct dice *d, uint8_t *ids, unsigned n)
+{
+    for (unsigned i = 0; i < n; i++) {
+        unsigned k = roll(d, i + 1);
+        ids[i] = ids[k];
+        ids[k] = (uint8_t)i;
+    }
+}
+
+void make_chain(struct dice *d, unsigned length, unsigned waiting_percent, struct locktable *t, struct chain *c)
+{
+    memset(t, 0, sizeof *t);
+    shuffle(d, c->thread, THREADS);
+    shuffle(d, c->resource, RESOURCES);
+    t->clock = 100;
+    for (unsigned i = 0; i < THREADS; i++) {
+        t->live[c->thread[i]] = 1;
+        t->priority[c->thread[i]] = i == 31 ? 255 : (uint8_t)roll(d, 255);
+        t->time[c->thread[i]] = (uint16_t)i;
+    }
+    for (unsigned i = 0; i < length; i++)
+        put(t, c->resource[i], c->thread[i]);
+    for (unsigned i = 1; i < length; i++)
+        put(t, c->resource[i - 1], c->thread[i]);
+    for (unsigned i = length; i < 31; i++)
+        if (chance(d, waiting_percent))
+            put(t, c->resource[roll(d, length)], c->thread[i]);
+    model_set_currents(t);
+}
+
+void fill_with_noise(struct dice *d, struct locktable *t)
+{
+    uint8_t *bytes = (uint8_t *)t;
+    unsigned below = chance(d, 50) ? 256 : 2;
+    for (unsigned i = 0; i < sizeof *t; i++)
+        bytes[i] = (uint8_t)roll(d, below);
+}

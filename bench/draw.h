@@ -1,0 +1,33 @@
+/* Records and tables by chance, the same for the same seed on every machine. */
+#ifndef BENCH_DRAW_H
+#define BENCH_DRAW_H
+#include <stdint.h>
+#include "locktable.h"
+
+struct dice { uint64_t state; };
+
+/* How a history goes: how many of each there are, and how often a record is junk. */
+struct mood { unsigned threads, resources, priorities, junk_percent; };
+
+uint64_t mix(uint64_t x);
+unsigned roll(struct dice *d, unsigned below);
+
+struct mood draw_mood(struct dice *d);
+/* The next record of a history; `running` as the last answer said. */
+struct locktable_record draw_record(struct dice *d, const struct mood *m, const struct locktable *t, unsigned running);
+/* An event of the running thread or a Create, never junk; keeps `threads` threads live. */
+struct locktable_record draw_busy_record(struct dice *d, const struct mood *m, const struct locktable *t, unsigned running);
+
+/* Changes 1 to 4 bytes. */
+void damage(struct dice *d, struct locktable *t);
+/* Breaks at most one rule of a sound table and keeps the others, which changed bytes alone seldom do. */
+void break_a_rule(struct dice *d, struct locktable *t);
+/* A table that no history need lead to: mostly sound; at times a circle, a thread waiting twice, or equal times. */
+void make_table(struct dice *d, const struct mood *m, struct locktable *t);
+/* A sound table of 32 live threads: thread[i] holds resource[i] and waits for resource[i - 1], up to the length; of the others so many of a
+   hundred wait somewhere in the chain. thread[31] waits for nothing, holds nothing and is the highest, so it runs. */
+struct chain { uint8_t thread[32], resource[16]; };
+void make_chain(struct dice *d, unsigned length, unsigned waiting_percent, struct locktable *t, struct chain *c);
+void fill_with_noise(struct dice *d, struct locktable *t);
+
+#endif

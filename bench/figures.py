@@ -1,0 +1,201 @@
+"""figures.py DIR: the figures that `bench/run --figures` counted in DIR, as a page.
+
+A goal that is not met is said so on the page, in the sentence with the figure."""
+import sys
+
+WORKLOADS = {
+    'small': 'the vector `small`',
+    'contended': 'the vector `contended`',
+    'chain_of_16': 'the vector `chain_of_16`',
+    'live_2': 'busy history, 2 live threads',
+    'live_8': 'busy history, 8 live threads',
+    'live_32': 'busy history, 32 live threads',
+    'chain_32': 'chain of sixteen holders, rising ids, growing to 32 live threads',
+    'falling_32': 'the same chain, falling ids',
+    'crowd_32': '31 threads wait at one resource, growing to 32 live threads',
+    'chains_32': '1,000 made chains of sixteen holders, 32 live threads',
+    'made_32': 'one event on each of 2,000 made tables, 29 to 32 live threads',
+}
+KINDS = {
+    'create': 'Create', 'exit': 'Exit', 'set': 'Set', 'p_free': 'P, free', 'p_taken': 'P, taken',
+    'v_last': 'V, nobody waits', 'v_heir': 'V, somebody waits', 'refused': 'refused',
+}
+CALLS = ['step', 'running', 'thread', 'resource', 'empty']
+# A plain C version, measured the same way: what is known of it.
+PLAIN = {('small', 'mean'): 4000, ('contended', 'mean'): 4400, ('chain_of_16', 'worst'): 8500}
+MOST_TO_C, MOST_AT_32, MOST_STACK = 1.4, 12000, 5120
+
+
+def read_counts(path):
+    """function -> times, mean, worst, stack; each kind's function is one jump to the step, which is taken off."""
+    found = {}
+    for line in open(path):
+        w = line.split()
+        if w[0] == 'function' and int(w[3]) > 0:
+            jump = 1 if w[1].split('_', 1)[1] in KINDS else 0
+            found[w[1]] = {'times': int(w[3]), 'mean': float(w[7]) - jump, 'worst': int(w[11]) - jump, 'stack': int(w[15])}
+    return found
+
+
+def read_depths(path):
+    """function -> deepest stack with callees, by the machine code; what the C library adds is not in it."""
+    rows = [line.split() for line in open(path)]
+    return {w[2]: int(w[1].rstrip('+')) for w in rows if w and w[0].isdigit()}
+
+
+def number(x):
+    return f'{round(x):,}'
+
+
+def table(head, rows):
+    lines = ['| ' + ' | '.join(r) + ' |' for r in [head, ['---'] + ['---:'] * (len(head) - 1)] + rows]
+    return '\n'.join(lines) + '\n'
+
+
+def pair(ours, fast):
+    """mean and worst of ours and of fast.c, and how many times as much ours is."""
+    return [number(ours['mean']), number(fast['mean']), f"{ours['mean'] / fast['mean']:.2f}",
+            number(ours['worst']), number(fast['worst']), f"{ours['worst'] / fast['worst']:.2f}"]
+
+
+PAIR_HEAD = ['mean', 'fast.c', 'times', 'worst', 'fast.c', 'times']
+
+
+def call_table(counts, call):
+    rows = []
+    for name, words in WORKLOADS.items():
+        c = counts[name]
+        rows.append([words, number(c['locktable_' + call]['times'])] + pair(c['locktable_' + call], c['fast_' + call]))
+    return table(['', 'calls'] + PAIR_HEAD, rows)
+
+
+def kind_table(counts):
+    rows = []
+    for kind, words in KINDS.items():
+        if 'ours_' + kind in counts:
+            rows.append([words, number(counts['ours_' + kind]['times'])] + pair(counts['ours_' + kind], counts['fast_' + kind]))
+    return table(['', 'calls'] + PAIR_HEAD, rows)
+
+
+def most_touched(counts):
+    """function -> the deepest stack of all histories, in bytes."""
+    most = {}
+    for found in counts.values():
+        for name, c in found.items():
+            most[name] = max(most.get(name, 0), c['stack'])
+    return most
+
+
+def stack_table(touched, depths):
+    rows = []
+    for call in CALLS:
+        ours, fast = 'locktable_' + call, 'fast_' + call
+        rows.append([f'`{ours}`', number(touched[ours]), number(touched[fast]), number(depths[ours]), number(depths[fast])])
+    return table(['', 'touched', 'fast.c', 'frames', 'fast.c'], rows)
+
+
+def goal_row(words, figure, limit, why):
+    met = 'met' if figure <= limit else f'**no, {figure / limit:.2f} times the goal**'
+    return [words, number(figure), number(limit), why, met]
+
+
+def goals(counts, touched):
+    """Each goal: what it is of, our figure, the most it should be, where that comes from, and whether it is met."""
+    rows = []
+    for (name, what), plain in PLAIN.items():
+        fast = counts[name]['fast_step'][what]
+        why = f'{MOST_TO_C} times {number(min(fast, plain))}, ' + ('`fast.c`' if fast <= plain else 'plain C')
+        rows.append(goal_row(f'{WORKLOADS[name]}, {what}', counts[name]['locktable_step'][what], MOST_TO_C * min(fast, plain), why))
+    at_32 = max(counts[n]['locktable_step']['worst'] for n in WORKLOADS if n.endswith('_32'))
+    rows.append(goal_row('worst step of those with up to 32 live threads', at_32, MOST_AT_32, 'fixed'))
+    rows.append(goal_row('stack of the step, bytes', touched['locktable_step'], MOST_STACK, 'fixed'))
+    return rows
+
+
+def verdict(counts, rows):
+    unmet = sum(1 for r in rows if r[-1] != 'met')
+    if unmet == 0:
+        return 'All are met.'
+    words = [f"""**{unmet} of {len(rows)} are not met.** The step is a function from a table to a table, as it is proved, and the thin call stores its result, so the
+table is copied on the way, which C that changes bytes in place does not do. How much of the difference that makes is not counted here."""]
+    rising, falling = (counts[name]['locktable_running']['worst'] for name in ('chain_32', 'falling_32'))
+    if falling > 1.2 * rising:
+        words.append(f"""The order of ids matters: on the same chain the soundness test takes {number(rising)} at worst with rising ids and
+{number(falling)} with falling ones.""")
+    return '\n'.join(words)
+
+
+def beside_plain(counts):
+    """The plain C version's figures, which are few."""
+    parts = []
+    for (name, what), plain in PLAIN.items():
+        ours = counts[name]['locktable_step'][what]
+        parts.append(f'{number(plain)} {what} on `{name}`, ours is {ours / plain:.2f} times that')
+    return ';\n'.join(parts)
+
+
+PAGE = """# Figures
+
+Written by `bench/run --figures`; do not edit. Instructions that an x86-64 processor executes, counted exactly, callees included, the
+C library's memcpy in its SSE2 form. They depend on the compiler and not on the machine or its load; a copy's count varies by a few with where it
+lies. Kit: `{version}`.
+
+"Ours" is the linked library, called as in `include/locktable.h`. `fast.c` is the same calls in C, written for a kernel and compiled by the same
+clang at the same settings; both ran in the same process on the same events, and their tables were equal after each. Of a
+plain C version four figures are known:
+{plain};
+and 560 bytes of stack.
+
+## Against the goals
+
+{verdict}
+
+{goals}
+## The step
+
+{step}
+## The test whether the table is sound
+
+As the query for the running thread shows it: the test, and the search for who runs.
+
+{sound}
+## The step by kind of event
+
+{kinds}## Stack
+
+Bytes below the call's return address, callees included. Touched: down to the lowest byte that any of these runs touched, the red zone of the
+deepest function with it. Frames: pushes and frames on the deepest way, by the machine code, without a red zone.
+
+{stack}
+## Commands
+
+    bench/run --figures
+
+or by hand, after it has built the programs once:
+
+    bench/count -s -f locktable_step -f fast_step target/bench/cost vector crates/drill_vectors/data/small.in
+    bench/count -s -f locktable_step -f fast_step target/bench/cost live 32 3000
+    bench/stack target/bench/cost
+
+`bench/count` with `-f ours_p_taken -f fast_p_taken` and so on gives one kind; `bench/cost.c` lists the histories.
+"""
+
+
+def kind_tables(counts):
+    return '\n'.join(f'{words[0].upper()}{words[1:]}:\n\n{kind_table(counts[name])}' for name, words in WORKLOADS.items())
+
+
+def page(counts, depths, version):
+    touched = most_touched(counts)
+    rows = goals(counts, touched)
+    return PAGE.format(version=version, plain=beside_plain(counts), verdict=verdict(counts, rows),
+                       goals=table(['', 'ours', 'at most', 'which is', 'met'], rows), step=call_table(counts, 'step'),
+                       sound=call_table(counts, 'running'), kinds=kind_tables(counts) + '\n', stack=stack_table(touched, depths))
+
+
+def main(folder):
+    counts = {name: read_counts(f'{folder}/{name}.count') for name in WORKLOADS}
+    print(page(counts, read_depths(f'{folder}/frames'), open(f'{folder}/version').read().strip()), end='')
+
+
+main(sys.argv[1])

@@ -1,0 +1,92 @@
+/* A toy kernel around the lock table: three tasks, one lock, and the table's answer decides who runs.
+   The journal task is slow and takes the lock first. Then the urgent draw task wants it and must wait. The label task is of middling
+   urgency and needs no lock: without inheritance it would run ahead of journal, and so of draw. Here journal runs at draw's urgency.
+   `bench/run --example` builds and runs it. */
+#include <stdio.h>
+#include "locktable.h"
+
+enum { PRINTER = 0 }; /* the lock is resource 0 */
+enum { DRAW, LABEL, JOURNAL, TASKS };
+enum action { WORK, TAKE, GIVE, END };
+
+struct task {
+    const char *name;
+    uint8_t priority;
+    unsigned arrives; /* the turn of the kernel's loop at which it is created */
+    enum action script[6];
+    unsigned next;
+};
+
+/* The place in this list is the task's id in the table. */
+static struct task tasks[TASKS] = {
+    [DRAW] = { "draw", 30, 2, { TAKE, WORK, GIVE, END }, 0 },
+    [LABEL] = { "label", 20, 3, { WORK, END }, 0 },
+    [JOURNAL] = { "journal", 10, 0, { TAKE, WORK, WORK, GIVE, WORK, END }, 0 },
+};
+
+/* The kernel's only table, and who runs by the table's last answer. */
+static struct locktable table;
+static uint8_t running = LOCKTABLE_NOBODY;
+
+static const char *name(uint8_t id) { return id < TASKS ? tasks[id].name : "nobody"; }
+
+/* Every event goes through here: the answer's running thread is the one that gets the processor. */
+static int event(uint8_t kind, uint8_t id, uint8_t argument, const char *words)
+{
+    struct locktable_answer a = locktable_step(&table, (struct locktable_record){ kind, id, argument, 0 });
+    running = a.running;
+    printf("%-8s %-22s", name(id), words);
+    if (a.number != LOCKTABLE_ACCEPTED)
+        printf(" refused with %u;", a.number);
+    printf(" -> %s runs", name(running));
+    if (running != LOCKTABLE_NOBODY)
+        printf(" at priority %u", locktable_thread(&table, running).current_priority);
+    printf("\n");
+    return a.number == LOCKTABLE_ACCEPTED;
+}
+
+static int arrivals(unsigned turn)
+{
+    int well = 1;
+    for (uint8_t id = 0; id < TASKS; id++)
+        if (tasks[id].arrives == turn)
+            well &= event(LOCKTABLE_CREATE, id, tasks[id].priority, "arrives");
+    return well;
+}
+
+static int take_lock(uint8_t id)
+{
+    uint8_t holder = locktable_resource(&table, PRINTER).holder;
+    char words[32] = "takes the lock";
+    if (holder != LOCKTABLE_NOBODY)
+        snprintf(words, sizeof words, "waits for %s", name(holder));
+    return event(LOCKTABLE_P, id, PRINTER, words);
+}
+
+/* The task that the table named does the next thing in its script. */
+static int do_next(uint8_t id)
+{
+    switch (tasks[id].script[tasks[id].next++]) {
+    case TAKE: return take_lock(id);
+    case GIVE: return event(LOCKTABLE_V, id, PRINTER, "gives the lock back");
+    case END: return event(LOCKTABLE_EXIT, id, 0, "ends");
+    default: return printf("%-8s works\n", name(id)) > 0;
+    }
+}
+
+int main(void)
+{
+    int well = 1, draw_ended = 0, label_ahead = 0;
+    locktable_empty(&table);
+    for (unsigned turn = 0; well && (turn < 4 || running != LOCKTABLE_NOBODY); turn++) {
+        well = arrivals(turn);
+        uint8_t id = running;
+        if (!well || id == LOCKTABLE_NOBODY)
+            continue;
+        label_ahead |= id == LABEL && !draw_ended;
+        well = do_next(id);
+        draw_ended |= id == DRAW && locktable_thread(&table, DRAW).number == LOCKTABLE_NOT_LIVE;
+    }
+    printf(label_ahead ? "label ran ahead of draw\n" : "label never ran ahead of draw\n");
+    return well && !label_ahead ? 0 : 1;
+}
