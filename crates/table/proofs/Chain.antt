@@ -31,7 +31,7 @@ module _ (waits queue length : List ℕ) where
       go (no q) on = on (omega arith)
 
   -- so a way passes less than 32 holders
-  short : {t k : ℕ} → Ending waits queue length t k → k < 32
+  pub short : {t k : ℕ} → Ending waits queue length t k → k < 32
   short {k = k} e = pigeons-by 32 (suc k) (λ i a. Ending waits queue length a i) (heights e) (λ i j a. ending-unique)
 
   module _ (seen : List Bool) where
@@ -52,17 +52,14 @@ module _ (waits queue length : List ℕ) where
           resource-on waits queue length seen (n - 1) (n - 2) (omega arith) (at waits t) (entry queue (at waits t) 0) w m refl,
         )
 
-    -- from what a thread waits for, the walk finds the end of every way that ends
-    pub ends-found : (t : ℕ) → at waits t < 16 → Ends-from waits queue length t → resource-end 64 waits queue length seen (at waits t) ≢ 32
-    ends-found t w (_, here h v) = absurd (omega arith)
-    ends-found t w (_, goes-on {k = k} h v m e) =
-        let on = enough e 63 (omega (arith, short e)) in
-        omega (arith, resource-on waits queue length seen 64 63 refl (at waits t) (entry queue (at waits t) 0) w m refl)
+    -- the walk finds the end of every way that ends
+    pub ends-found : (t : ℕ) → Ends-from waits queue length t → thread-end 64 waits queue length seen t ≢ 32
+    ends-found t (_, e) = enough e 64 (omega (arith, short e))
 
     -- and where the ways from all that are seen end, it finds no other
     module _ (ended : (u : ℕ) → getD seen u false ≡ true → Ends-from waits queue length u) where
       mutual
-        found-ends : (n t : ℕ) → thread-end n waits queue length seen t ≢ 32 → Ends-from waits queue length t
+        pub found-ends : (n t : ℕ) → thread-end n waits queue length seen t ≢ 32 → Ends-from waits queue length t
         found-ends zero t found = absurd (found (thread-none _ _ _ _ 0 t refl))
         found-ends (suc n) t found = go (decLe 32 t) (getD seen t false) refl (decLe 16 (at waits t)) (λ h w on. resource-found n t h w on)
           where
@@ -73,7 +70,7 @@ module _ (waits queue length : List ℕ) where
             go (no h) false s (yes w) on = (zero, here {t = t} (omega arith) w)
             go (no h) false s (no w) on = on (omega arith) (omega arith) (λ e. found (thread-on _ _ _ _ _ n refl t (omega arith) s (omega arith) ∙ e))
 
-        pub resource-found : (n t : ℕ) → t < 32 → at waits t < 16 → resource-end n waits queue length seen (at waits t) ≢ 32 → Ends-from waits queue length t
+        resource-found : (n t : ℕ) → t < 32 → at waits t < 16 → resource-end n waits queue length seen (at waits t) ≢ 32 → Ends-from waits queue length t
         resource-found zero t h w found = absurd (found (resource-none _ _ _ _ 0 (at waits t) refl))
         resource-found (suc n) t h w found = go (ℕ-discrete (at length (at waits t)) 0) (λ on. found-ends n (entry queue (at waits t) 0) on)
           where

@@ -20,10 +20,7 @@ use Rattle.table.specs.declared.Table.{Table}
 use Rattle.table.specs.Table.{at, live, own, queues, holds, waits, cprec, ready, Runner}
 use Rattle.table.specs.Compute.{find-below, first-or-32, is-live, holder, is-waiting, waits-for, blocker, depends, is-higher, highest-behind, current, is-ready, leader, runner, ends}
 use Rattle.table.proofs.Rows.{One-queue}
-use Rattle.table.proofs.Reflect.{Tells, tells-eq, tells-lt, tells-both, tells-either, tells-not, tells-member, tells-higher}
-
-id-tells : (b : Bool) → Tells b (b ≡ true)
-id-tells b = ((λ e. e), λ e. e)
+use Rattle.table.proofs.Reflect.{Tells, tells-itself, tells-eq, tells-lt, tells-both, tells-either, tells-not, tells-member, tells-higher}
 
 -- find-below finds one that passes, if any does
 pub find-cases : (d : ℕ) (f : ℕ → Bool) (n : ℕ) → ((find-below d n f < n) × (f (find-below d n f) ≡ true)) ⊎ ((find-below d n f ≡ d) × ((i : ℕ) → i < n → ¬ (f i ≡ true)))
@@ -107,7 +104,7 @@ module _ (t : Table) (o : Orderly (queues t) (live t)) (low : (x r : ℕ) → x 
   depends-true : (n u x : ℕ) → depends n t u x ≡ true → Depends (children (queues t)) u x
   unfolding depends
   depends-true zero u x e = absurd (false≢true e)
-  depends-true (suc n) u x e = go (tells-both (tells-lt (blocker t u) 32) (tells-either (tells-eq (blocker t u) x) (id-tells (depends n t (blocker t u) x))) .0 e) (depends-true n (blocker t u) x) (blocker-cases t (o .forest .one-wait) low u)
+  depends-true (suc n) u x e = go (tells-both (tells-lt (blocker t u) 32) (tells-either (tells-eq (blocker t u) x) (tells-itself (depends n t (blocker t u) x))) .0 e) (depends-true n (blocker t u) x) (blocker-cases t (o .forest .one-wait) low u)
     where
       go : (blocker t u < 32) × ((blocker t u ≡ x) ⊎ (depends n t (blocker t u) x ≡ true)) → (depends n t (blocker t u) x ≡ true → Depends (children (queues t)) (blocker t u) x) →
           ((waits-for t u ≢ 16) × (u ∈ children (queues t) (blocker t u))) ⊎ ((waits-for t u ≡ 16) × (32 ≤ blocker t u) × Free (children (queues t)) u) → Depends (children (queues t)) u x
@@ -124,7 +121,7 @@ module _ (t : Table) (o : Orderly (queues t) (live t)) (low : (x r : ℕ) → x 
       b = child-blocker t (o .forest .one-wait) low u v j
 
       go : (p : ℕ) × (u ∈ children (queues t) p) × Reach (children (queues t)) p x → ((y : ℕ) → Depends (children (queues t)) v y → depends n t v y ≡ true) → (ltb (blocker t u) 32 && (eqb (blocker t u) x || depends n t (blocker t u) x)) ≡ true
-      go (p, i, r) ih = rw b (tells-both (tells-lt v 32) (tells-either (tells-eq v x) (id-tells (depends n t v x))) .1
+      go (p, i, r) ih = rw b (tells-both (tells-lt v 32) (tells-either (tells-eq v x) (tells-itself (depends n t v x))) .1
           (live-low v (parent-live o u v j), ⊎-elim (λ e. inl (same-parent e)) (λ e. inr (ih x (subst (λ (y : ℕ). Depends (children (queues t)) y x) (parents o u p v i j) e))) r))
         where
           same-parent : p ≡ x → v ≡ x

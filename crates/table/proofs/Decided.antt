@@ -1,7 +1,7 @@
 -- The test of specs/Compute.antt tells whether a table is sound, rule by rule. Assumes nothing.
 use Prim.Native.Nat.{ℕ, zero, suc, _+_, _*_, _≤_, _<_}
 use mathlib.Core.Path.{_≡_, sym, ap, _∙_, Σ-path}
-use mathlib.Core.Bool.{Bool, true, false≢true}
+use mathlib.Core.Bool.{true, false≢true}
 use mathlib.Core.Logic.{_≢_, _⊎_, inl, inr, ⊎-elim}
 use native.Mathlib.Decide.{decLt}
 use native.Mathlib.Omega.{arith}
@@ -23,7 +23,7 @@ use Rattle.table.specs.Compute.{is-live, waits-for, blocker, current, en
 use Rattle.table.proofs.Sums.{beyond}
 use Rattle.table.proofs.Rows.{live-low, taken-low, in-queue, One-queue}
 use Rattle.table.proofs.Soundness.{zero-beyond, rows-orderly, sound-orderly}
-use Rattle.table.proofs.Reflect.{Tells, tells-eq, tells-lt, tells-le, tells-both, tells-either, tells-where, tells-unless, tells-below, tells-each, tells-differ, tells-same}
+use Rattle.table.proofs.Reflect.{Tells, tells-itself, tells-eq, tells-lt, tells-le, tells-both, tells-either, tells-where, tells-unless, tells-below, tells-each, tells-differ, tells-same}
 use Rattle.table.proofs.Computed.{tells-live, tells-waiting, waits-for-is, child-blocker, blocker-cases, sixteen, current-is}
 
 -- what the rules say below 32 and 16, where the arrays end
@@ -37,9 +37,6 @@ pub record Rules (t : Table) : Type 0 where
   pub once : (cs : ℕ) → cs < 16 → (th : ℕ) → th ∈ set (queues t cs) → waits t th cs → waits-for t th ≡ cs
   pub ways : (th : ℕ) → th < 32 → ends 33 t th ≡ true
   pub currents : (th : ℕ) → th < 32 → th ∈ live t → stored t th ≡ current t th
-
-self : (b : Bool) → Tells b (b ≡ true)
-self b = ((λ e. e), λ e. e)
 
 module _ (t : Table) where
   tells-dead : (th : ℕ) → Tells (dead-zero t th) (¬ (th ∈ live t) → (at (t .live) th ≡ 0) × ((own t th ≡ (0, 0)) × (stored t th ≡ (0, 0))))
@@ -76,7 +73,7 @@ module _ (t : Table) where
       (tells-both (tells-below 32 (time-right t) (λ th. th ∈ live t → (at (t .time) th < t .clock) × ((u : ℕ) → u < 32 → (u ∈ live t) × (at (t .time) th ≡ at (t .time) u) → th ≡ u)) (λ th h. tells-times th))
       (tells-both (tells-below 16 (queue-right t) (λ cs. (at (t .length) cs ≤ 32) × (((th : ℕ) → th ∈ set (queues t cs) → th ∈ live t) × distinct (queues t cs))) (λ cs h. tells-queue cs))
       (tells-both (tells-below 16 (waits-once t) (λ cs. (th : ℕ) → th ∈ set (queues t cs) → waits t th cs → waits-for t th ≡ cs) (λ cs h. tells-once cs))
-      (tells-both (tells-below 32 (ends 33 t) (λ th. ends 33 t th ≡ true) (λ th h. self (ends 33 t th)))
+      (tells-both (tells-below 32 (ends 33 t) (λ th. ends 33 t th ≡ true) (λ th h. tells-itself (ends 33 t th)))
       (tells-below 32 (current-right t) (λ th. th ∈ live t → stored t th ≡ current t th) (λ th h. tells-current th))))))))) in (
         (λ e. let k = all .0 e in record {
           clock = k .0;
@@ -97,7 +94,7 @@ module _ (t : Table) (one : One-queue t) (low : (x r : ℕ) → x ∈ set (queue
   ends-climb : (n th : ℕ) → ends n t th ≡ true → Ends (children (queues t)) th
   unfolding ends
   ends-climb zero th e = absurd (false≢true e)
-  ends-climb (suc n) th e = go (tells-either (tells-eq (waits-for t th) 16) (self (ends n t (blocker t th))) .0 e) (ends-climb n (blocker t th)) (blocker-cases t one low th)
+  ends-climb (suc n) th e = go (tells-either (tells-eq (waits-for t th) 16) (tells-itself (ends n t (blocker t th))) .0 e) (ends-climb n (blocker t th)) (blocker-cases t one low th)
     where
       go : (waits-for t th ≡ 16) ⊎ (ends n t (blocker t th) ≡ true) → (ends n t (blocker t th) ≡ true → Ends (children (queues t)) (blocker t th)) →
           ((waits-for t th ≢ 16) × (th ∈ children (queues t) (blocker t th))) ⊎ ((waits-for t th ≡ 16) × (32 ≤ blocker t th) × Free (children (queues t)) th) → Ends (children (queues t)) th
@@ -108,9 +105,9 @@ module _ (t : Table) (one : One-queue t) (low : (x r : ℕ) → x ∈ set (queue
   climb-ends : {th k : ℕ} → Climb (children (queues t)) th k → (n : ℕ) → k < n → ends n t th ≡ true
   unfolding ends
   climb-ends c zero h = absurd (omega arith)
-  climb-ends (stop {t = th} f) (suc n) h = tells-either (tells-eq (waits-for t th) 16) (self (ends n t (blocker t th))) .1
+  climb-ends (stop {t = th} f) (suc n) h = tells-either (tells-eq (waits-for t th) 16) (tells-itself (ends n t (blocker t th))) .1
       (inl (⊎-elim {C = waits-for t th ≡ 16} (λ k. absurd (f (blocker t th) (k .1))) (λ k. k .0) (blocker-cases t one low th)))
-  climb-ends (hop {t = th} {h = v} j c) (suc n) h = tells-either (tells-eq (waits-for t th) 16) (self (ends n t (blocker t th))) .1
+  climb-ends (hop {t = th} {h = v} j c) (suc n) h = tells-either (tells-eq (waits-for t th) 16) (tells-itself (ends n t (blocker t th))) .1
       (inr (rw (child-blocker t one low th v j) (climb-ends c n (omega arith))))
 
 module _ (t : Table) (shape : Shape t) where

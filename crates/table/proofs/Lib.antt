@@ -5,6 +5,7 @@ pub mod Sums
 pub mod Survey
 pub mod Steps
 pub mod Chain
+pub mod Marks
 pub mod Lead
 pub mod Places
 pub mod Rows

@@ -26,6 +26,10 @@ same-test {a} {b} {A} p q = go a b p q
     go false true p q = p .1 (q .0 refl)
     go false false p q = refl
 
+-- a test tells at least that it passes
+pub tells-itself : (b : Bool) → Tells b (b ≡ true)
+tells-itself b = ((λ e. e), λ e. e)
+
 pub tells-eq : (a b : ℕ) → Tells (eqb a b) (a ≡ b)
 tells-eq a b = (eqb-true a b, eq-eqb a b)
 

@@ -1,7 +1,8 @@
 -- Going up the chain of holders, and the highest ready thread, as the code goes about it. Assumes nothing.
 use Prim.Native.Nat.{ℕ, zero, suc, _≤_, _<_}
-use mathlib.Core.Logic.{_≢_}
-use mathlib.Core.Bool.{Bool, false, cond, _&&_}
+use mathlib.Core.Path.{_≡_}
+use mathlib.Core.Logic.{_≢_, _⊎_}
+use mathlib.Core.Bool.{Bool, true, false, cond, _&&_}
 use mathlib.Core.List.{List}
 use lib.Dec.{eqb, ltb, leb}
 use lib.ListN.{getD}
@@ -28,6 +29,11 @@ pub data Ending (waits queue length : List ℕ) : ℕ → ℕ → Type 0 where
 
 abbrev pub Ends-from : List ℕ → List ℕ → List ℕ → ℕ → Type 0
 Ends-from waits queue length t = (k : ℕ) × Ending waits queue length t k
+
+-- whatever is marked afterwards was marked before, or the way from it ends
+abbrev pub Only-ended : List ℕ → List ℕ → List ℕ → List Bool → List Bool → Type 0
+Only-ended waits queue length before after =
+    (u : ℕ) → getD after u false ≡ true → (getD before u false ≡ true) ⊎ Ends-from waits queue length u
 
 -- live, and waiting for nothing
 abbrev pub is-ready : List ℕ → List ℕ → ℕ → Bool

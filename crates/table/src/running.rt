@@ -4,7 +4,7 @@ ghost use Rattle.table.specs.Walks.{runner};
 use crate::Table;
 
 // The ready thread of highest number, the first of them; 32 if no ready thread has a number above 0. In a sound table a live
-// thread always has one.
+// thread always has one. The numbers are compared first, since most threads fail at that.
 pub fn running<'a>(
     live: &'a [u8; Table::THREADS],
     waits: &'a [u8; Table::THREADS],
@@ -17,7 +17,7 @@ pub fn running<'a>(
     let mut i: u8 = 0;
     while i < Table::NOBODY {
         let k = i as usize;
-        if live[k] == 1 && waits[k] == Table::NOTHING && high < current[k] {
+        if high < current[k] && waits[k] == Table::NOTHING && live[k] == 1 {
             high = current[k];
             best = i;
         }

@@ -2,7 +2,7 @@
 ghost use mathlib.Core.Path.{_≡_};
 ghost use mathlib.Core.Bool.{true};
 ghost use mathlib.Core.Logic.{_↔_, _⊎_};
-ghost use Prim.Native.Nat.{ℕ, _+_, _<_, _≤_};
+ghost use Prim.Native.Nat.{ℕ, _+_, _%_, _<_, _≤_};
 ghost use Rattle.table.specs.Table.{at};
 ghost use Rattle.table.specs.Parts.{Slot-right, Slots-right, Times-differ, Time-taken};
 use crate::Table;
@@ -118,16 +118,30 @@ fn time_taken<'a>(live: &'a [u8; Table::THREADS], time: &'a [u16; Table::THREADS
     1 < n
 }
 
-// Whether the set times of live threads are all different.
+// How many marks there are for times. Enough that of 32 threads few share one, and little to clear.
+const MARKS: usize = 64;
+
+// The same for equal times.
+fn mark_of(time: u16) -> usize
+    ensures { λ m. ⌜ m ≡ time % 64 ⌝ }
+{
+    time as usize % MARKS
+}
+
+// Whether the set times of live threads are all different. Of two that have the same time the later finds its mark set, so only
+// threads that find it set are compared with the others.
 pub fn times_differ<'a>(live: &'a [u8; Table::THREADS], time: &'a [u16; Table::THREADS]) -> bool
     ensures { λ r. ⌜ (r ≡ true) ↔ Times-differ (now (live .entry)) (now (time .entry)) ⌝ }
 {
+    let mut marks = [false; MARKS];
     let mut i = 0;
     while i < Table::THREADS {
         if live[i] == 1 {
-            if time_taken(live, time, i) {
+            let m = mark_of(time[i]);
+            if marks[m] && time_taken(live, time, i) {
                 return false;
             }
+            marks[m] = true;
         }
         i += 1;
     }

@@ -2,9 +2,13 @@
 ghost use mathlib.Core.Path.{_≡_};
 ghost use mathlib.Core.Bool.{true};
 ghost use mathlib.Core.Logic.{_↔_};
-ghost use Prim.Native.Nat.{ℕ, _<_};
-ghost use Rattle.table.specs.Walks.{thread-end, resource-end, Ends-from};
+ghost use mathlib.Core.List.{List};
+ghost use Prim.Native.Nat.{ℕ, _<_, _≤_};
+ghost use Rattle.table.specs.Table.{at};
+ghost use Rattle.table.specs.Walks.{thread-end, resource-end, Ends-from, Only-ended};
 use crate::Table;
+use crate::queues::holder;
+use crate::queues::wide;
 
 // The thread at which the way from t ends, or the first on it that is seen; 32 if the steps run out.
 pub fn from_thread<'a>(
@@ -62,8 +66,51 @@ pub fn from_resource<'a>(
 // More nodes than a way without a circle has: it passes each of 32 threads and of 16 resources once at most.
 const NODES: u32 = 64;
 
-// Whether the way from every thread ends. Only threads that wait are walked from, starting at what they wait for: the way from
-// others ends at once. Threads that wait and from which it ends are marked, so that a later way stops where it meets one.
+// Marks the threads on the way from h, which ends, up to one that is marked already. Whether a resource is taken matters only to
+// whether the way ends, so the lengths are not read here, and the statement is for any lengths by which it ends.
+fn mark<'a>(
+    waits: &'a [u8; Table::THREADS],
+    queue: &'a [u8; Table::PLACES],
+    h: u8,
+    seen: &mut [bool; Table::THREADS],
+)
+    requires { ⌜ ((lengths : List ℕ) × Ends-from (now waits) (now queue) lengths h) ⌝ }
+    ensures { λ _. ⌜ ((lengths : List ℕ) → Ends-from (now (waits .entry)) (now (queue .entry)) lengths h → Only-ended (now (waits .entry)) (now (queue .entry)) lengths (now (seen .entry)) (now (seen .exit))) ⌝ }
+{
+    let mut i = wide(h);
+    while !seen[i] {
+        seen[i] = true;
+        let r = wide(waits[i]);
+        if Table::RESOURCES <= r {
+            return;
+        }
+        i = wide(queue[r * Table::THREADS]);
+    }
+}
+
+fn lower(a: u8, b: u8) -> u8
+    ensures { λ r. ⌜ (r ≤ a) × (r ≤ b) ⌝ }
+{
+    if a < b { a } else { b }
+}
+
+// A number below which nobody waits for a resource; where nobody waits at all it comes to 16. The lowest is looked for, since that
+// vectorises where a return at the first waiter would not.
+fn lowest(waits: &[u8; Table::THREADS]) -> u8
+    ensures { λ n. ⌜ ((th : ℕ) → th < 32 → n ≤ at (now (waits .entry)) th) ⌝ }
+{
+    let mut n: u8 = Table::NOTHING;
+    let mut i = 0;
+    while i < Table::THREADS {
+        n = lower(n, waits[i]);
+        i += 1;
+    }
+    n
+}
+
+// Whether the way from every thread ends. Only threads that wait are looked at, each by the holder of what it waits for: the way from
+// others ends at once, and in many tables nobody waits. All threads on a way that ends are marked, so that a later way stops where it
+// meets one: each thread is walked over once, and once more to mark it.
 pub fn no_circle<'a>(
     waits: &'a [u8; Table::THREADS],
     queue: &'a [u8; Table::PLACES],
@@ -71,18 +118,27 @@ pub fn no_circle<'a>(
 ) -> bool
     ensures { λ b. ⌜ (b ≡ true) ↔ ((th : ℕ) → th < 32 → Ends-from (now (waits .entry)) (now (queue .entry)) (now (length .entry)) th) ⌝ }
 {
+    if Table::NOTHING <= lowest(waits) {
+        return true;
+    }
     let mut seen = [false; Table::THREADS];
-    let mut t: u8 = 0;
-    while t < Table::NOBODY {
-        let i = t as usize;
-        let r = waits[i];
-        if r < Table::NOTHING {
-            if from_resource(waits, queue, length, &seen, r, NODES) == Table::NOBODY {
+    let mut i = 0;
+    while i < Table::THREADS {
+        let r = wide(waits[i]);
+        if r < Table::RESOURCES {
+            let h = holder(queue, length, r);
+            if Table::NOBODY <= h {
                 return false;
+            }
+            if !seen[h as usize] {
+                if from_thread(waits, queue, length, &seen, h, NODES) == Table::NOBODY {
+                    return false;
+                }
+                mark(waits, queue, h, &mut seen);
             }
             seen[i] = true;
         }
-        t += 1;
+        i += 1;
     }
     true
 }

@@ -3,14 +3,19 @@
 use Prim.Native.Nat.{_≤_, _-_, _+_}
 use native.Mathlib.Numerals.{add-one}
 use native.Mathlib.Omega.{arith}
-use mathlib.Core.Path.{_≡_, _∙_}
+use mathlib.Core.Path.{_≡_, refl, _∙_}
+use mathlib.Core.Bool.{Bool, true, false, _&&_}
 use mathlib.Core.Logic.{⊎-elim}
 use borrow.Author.Needs.{needs}
-use borrow.Author.Tests.{eq-eqb, ne-eqb}
+use borrow.Author.Tests.{lt-ltb, le-ltb}
 use Rattle.table.specs.Walks.{runner-number, runner}
 use Rattle.table.proofs.Steps.{runner-takes, runner-keeps}
 use Rattle.table.proofs.running.running.Statement.{statement}
 use Rattle.table.proofs.running.running.Tie as tie
+
+and-false : (b : Bool) → (b && false) ≡ false
+and-false true = refl
+and-false false = refl
 
 abbrev Inv-loop : tie.InvT-loop
 Inv-loop live waits current best₀ high₀ i₀ best high i = (i ≤ 32) × (high ≡ runner-number live waits current i) × (best ≡ runner live waits current i)
@@ -25,14 +30,14 @@ loop-holds c = search needs
 cast-k : tie.Need-cast-k Inv-loop μ-loop
 cast-k c = search needs
 
+mul-if1 : tie.Need-mul-if1 Inv-loop μ-loop
+mul-if1 c = search needs
+
 element-copy-out-if1 : tie.Need-element-copy-out-if1 Inv-loop μ-loop
 element-copy-out-if1 c = search needs
 
 element-copy-out-if2 : tie.Need-element-copy-out-if2 Inv-loop μ-loop
 element-copy-out-if2 c = search needs
-
-mul-if3 : tie.Need-mul-if3 Inv-loop μ-loop
-mul-if3 c = search needs
 
 element-copy-out-if3 : tie.Need-element-copy-out-if3 Inv-loop μ-loop
 element-copy-out-if3 c = search needs
@@ -55,10 +60,10 @@ loop-again c =
     let a = c .before .before .before .before .args in
     let take = runner-takes (a .live .now) (a .waits .now) (a .current .now) (s .i) (s .i + 1) (s .high) (add-one _) (s .inv .1) in
     let keep = runner-keeps (a .live .now) (a .waits .now) (a .current .now) (s .i) (s .i + 1) (s .high) (add-one _) (s .inv .1) in
-    ⊎-elim (λ w. let k = take (rw (eq-eqb _ _ (w .0 .taken), w .2 .taken, w .4 .taken)) in (omega arith, w .7 ∙ k .0, w .6 ∙ k .1))
+    ⊎-elim (λ w. let k = take (rw (lt-ltb _ _ (w .0 .taken), w .2 .taken, w .4 .taken)) in (omega arith, w .7 ∙ k .0, w .6 ∙ k .1))
     (λ w.
-    let k = keep (⊎-elim (λ v. rw (eq-eqb _ _ (v .0 .taken), v .2 .taken, v .4 .left))
-    (⊎-elim (λ v. rw (eq-eqb _ _ (v .0 .taken), v .2 .left)) (λ v. rw (ne-eqb _ _ (v .left)))) (w .0 .came)) in
+    let k = keep (⊎-elim (λ v. rw (v .2 .taken, v .4 .left))
+    (⊎-elim (λ v. rw (v .2 .left, and-false)) (λ v. rw (le-ltb _ _ (v .left), and-false))) (w .0 .came)) in
     (omega arith, w .2 ∙ k .0, w .1 ∙ s .inv .2 ∙ k .1))
     (c .if1 .came)
 
@@ -75,9 +80,9 @@ running-spec =
     μ-loop
     loop-holds
     cast-k
+    mul-if1
     element-copy-out-if1
     element-copy-out-if2
-    mul-if3
     element-copy-out-if3
     mul-high
     element-copy-out-high

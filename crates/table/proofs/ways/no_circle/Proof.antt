@@ -1,18 +1,17 @@
--- `table::ways::no_circle` meets its contract. The loop's invariant: the way ends from every thread before `t`, and from every
+-- `table::ways::no_circle` meets its contract. The loop's invariant: the way ends from every thread before `i`, and from every
 -- thread that is seen. The measure is the number of threads left. Assumes nothing.
 use Prim.Native.Nat.{ℕ, zero, suc, _≤_, _<_, _-_}
 use native.Mathlib.Omega.{arith}
-use native.Mathlib.Decide.{ℕ-discrete}
 use mathlib.Core.Path.{_≡_, refl, sym, _∙_}
-use mathlib.Core.Bool.{Bool, true, false, false≢true}
-use mathlib.Core.List.{List}
+use mathlib.Core.Bool.{true, false, false≢true}
 use mathlib.Core.Logic.{⊎-elim}
-use lib.ListN.{getD, set, replicate}
-use lib.Seq.{getD-set-other}
+use lib.ListN.{getD, replicate}
 use borrow.Author.Count.{below-more}
 use borrow.Author.Needs.{needs}
+use borrow.Author.Tests.{not-false}
 use Rattle.table.specs.Walks.{Ends-from, here}
-use Rattle.table.proofs.Chain.{ends-found, resource-found}
+use Rattle.table.proofs.Chain.{ends-found, found-ends}
+use Rattle.table.proofs.Marks.{marked, ends-low, ends-holder, holder-ends}
 use Rattle.table.proofs.ways.no_circle.Statement.{statement}
 use Rattle.table.proofs.ways.no_circle.Tie as tie
 
@@ -22,57 +21,87 @@ unseen zero u e = false≢true e
 unseen (suc n) zero e = false≢true e
 unseen (suc n) (suc u) e = unseen n u e
 
--- marking t keeps the invariant where t's way ends
-marked : {Q : ℕ → Type 0} (seen : List Bool) (t : ℕ) → ((u : ℕ) → getD seen u false ≡ true → Q u) → Q t → (u : ℕ) → getD (set seen t true) u false ≡ true → Q u
-marked {Q} seen t old new u e = go (ℕ-discrete u t)
-  where
-    go : Dec (u ≡ t) → Q u
-    go (yes q) = rw q new
-    go (no n) = old u (sym (getD-set-other seen t u true false n) ∙ e)
-
 abbrev Inv-loop : tie.InvT-loop
-Inv-loop waits queue length seen₀ t₀ seen t = (t ≤ 32) × ((u : ℕ) → u < t → Ends-from waits queue length u) × ((u : ℕ) → getD seen u false ≡ true → Ends-from waits queue length u)
+Inv-loop waits queue length seen₀ i₀ seen i = (i ≤ 32) × ((u : ℕ) → u < i → Ends-from waits queue length u) × ((u : ℕ) → getD seen u false ≡ true → Ends-from waits queue length u)
 
 abbrev μ-loop : tie.MeasureT-loop
-μ-loop waits queue length seen₀ t₀ seen t = 32 - t
+μ-loop waits queue length seen₀ i₀ seen i = 32 - i
+
+lowest-requires : tie.Need-lowest-requires Inv-loop μ-loop
+lowest-requires c κs = search needs
+
+returns : tie.Need-returns Inv-loop μ-loop
+returns c = ((λ _ th h. (0, here {t = th} h (omega (arith, c .before .lowest .ensures th h)))), λ _. refl)
 
 loop-holds : tie.Need-loop-holds Inv-loop μ-loop
 loop-holds c = (omega arith, (λ u h. absurd (omega arith)), λ u e. absurd (unseen 32 u e))
 
-cast-i : tie.Need-cast-i Inv-loop μ-loop
-cast-i c = search needs
+element-copy-out-wide : tie.Need-element-copy-out-wide Inv-loop μ-loop
+element-copy-out-wide c = search needs
 
-element-copy-out-r : tie.Need-element-copy-out-r Inv-loop μ-loop
-element-copy-out-r c = search needs
+wide-requires : tie.Need-wide-requires Inv-loop μ-loop
+wide-requires c κs = search needs
 
-from-resource-requires : tie.Need-from-resource-requires Inv-loop μ-loop
-from-resource-requires c κs = search needs
+holder-requires : tie.Need-holder-requires Inv-loop μ-loop
+holder-requires c κs = search needs
 
-returns : tie.Need-returns Inv-loop μ-loop
-returns c =
-    let s = c .before .before .before .before .before .before in
-    ((λ e. absurd (false≢true e)), λ f. absurd (ends-found _ _ _ _ (s .loop .t) (c .before .before .before .if1 .taken) (f (s .loop .t) (omega arith)) (sym (c .before .from-resource .ensures) ∙ c .if2 .taken)))
+returns-2 : tie.Need-returns-2 Inv-loop μ-loop
+returns-2 c =
+    let s = c .before .before .before .before .before .before .loop in
+    let r = c .before .before .before .wide .ensures .0 in
+    let y = c .before .holder .ensures in
+    ((λ e. absurd (false≢true e)), λ f. absurd (omega (arith, ends-low _ _ _ (ends-holder _ _ _ (s .i) _ _ r (omega arith) y (f (s .i) (omega arith))))))
+
+cast-if4 : tie.Need-cast-if4 Inv-loop μ-loop
+cast-if4 c = search needs
+
+array-read-if4 : tie.Need-array-read-if4 Inv-loop μ-loop
+array-read-if4 c = search needs
+
+from-thread-requires : tie.Need-from-thread-requires Inv-loop μ-loop
+from-thread-requires c κs = search needs
+
+returns-3 : tie.Need-returns-3 Inv-loop μ-loop
+returns-3 c =
+    let d = c .before .before .before .before in
+    let s = d .before .before .before .before .before .before .loop in
+    let r = d .before .before .before .wide .ensures .0 in
+    let y = d .before .holder .ensures in
+    ((λ e. absurd (false≢true e)), λ f. absurd (ends-found _ _ _ _ _ (ends-holder _ _ _ (s .i) _ _ r (omega arith) y (f (s .i) (omega arith))) (sym (c .before .from-thread .ensures) ∙ c .if5 .taken)))
+
+mark-requires : tie.Need-mark-requires Inv-loop μ-loop
+mark-requires c κs =
+    let s = c .before .before .before .before .before .before .before .before .before .before .before .loop in
+    (_, found-ends _ _ _ _ (s .inv .2) 64 _ (λ e. c .before .if5 .left (c .before .before .from-thread .ensures ∙ e)))
 
 array-write-seen : tie.Need-array-write-seen Inv-loop μ-loop
 array-write-seen c = search needs
 
-add-t : tie.Need-add-t Inv-loop μ-loop
-add-t c = search needs
+add-i : tie.Need-add-i Inv-loop μ-loop
+add-i c = search needs
 
 loop-less : tie.Need-loop-less Inv-loop μ-loop
 loop-less c = search needs
 
 loop-again : tie.Need-loop-again Inv-loop μ-loop
 loop-again c =
-    let s = c .before .before .before .loop in
+    let s = c .before .before .before .before .loop in
+    let a = c .before .before .before .before .before .before .before .args in
     ⊎-elim
-    (λ w. let new = resource-found _ _ _ _ (s .inv .2) 64 (s .t) (omega arith) (w .0 .taken) (λ e. w .3 .left (w .2 .ensures ∙ e)) in
-    (omega arith, below-more _ _ (s .inv .1) new, rw (w .4) (marked (s .seen) (s .t) (s .inv .2) new)))
-    (λ w. (omega arith, below-more _ _ (s .inv .1) (0, here {t = s .t} (omega arith) (omega (arith, w .0 .left))), rw (w .1) (s .inv .2)))
-    (c .if1 .came)
+    (λ w.
+    let k : Ends-from (a .waits .now) (a .queue .now) (a .length .now) (w .1 .result) × ((u : ℕ) → getD (w .3 .seen) u false ≡ true → Ends-from (a .waits .now) (a .queue .now) (a .length .now) u) = ⊎-elim
+    (λ v.
+    let e = found-ends _ _ _ _ (s .inv .2) 64 _ (λ q. v .3 .left (v .2 .ensures ∙ q)) in
+    (e, λ u m. ⊎-elim (s .inv .2 u) (λ x. x) (v .5 .ensures _ e u (rw (v .6) at m))))
+    (λ v. (s .inv .2 _ (not-false _ (v .0 .left)), rw (v .1) (s .inv .2)))
+    (w .3 .came) in
+    let new = holder-ends _ _ _ (s .i) _ _ (c .before .wide .ensures .0) (w .0 .taken) (w .1 .ensures) (omega arith) (omega (arith, w .2 .left)) (k .0) in
+    (omega arith, below-more _ _ (s .inv .1) new, rw (w .4) (marked (w .3 .seen) (s .i) (k .1) new)))
+    (λ w. (omega arith, below-more _ _ (s .inv .1) (0, here {t = s .i} (omega arith) (omega (arith, w .0 .left))), rw (w .1) (s .inv .2)))
+    (c .if2 .came)
 
-returns-2 : tie.Need-returns-2 Inv-loop μ-loop
-returns-2 c = ((λ _ th h. c .before .loop .inv .1 th (omega arith)), λ _. refl)
+returns-4 : tie.Need-returns-4 Inv-loop μ-loop
+returns-4 c = ((λ _ th h. c .before .loop .inv .1 th (omega arith)), λ _. refl)
 
 pub no-circle-spec : {M : Type 1} → statement M
 no-circle-spec =
@@ -80,13 +109,20 @@ no-circle-spec =
     (tie.spec
     Inv-loop
     μ-loop
-    loop-holds
-    cast-i
-    element-copy-out-r
-    from-resource-requires
+    lowest-requires
     returns
+    loop-holds
+    element-copy-out-wide
+    wide-requires
+    holder-requires
+    returns-2
+    cast-if4
+    array-read-if4
+    from-thread-requires
+    returns-3
+    mark-requires
     array-write-seen
-    add-t
+    add-i
     loop-less
     loop-again
-    returns-2)
+    returns-4)
