@@ -1,28 +1,26 @@
--- The table in work after each accepted event is what document 01 makes of it, but for the stored current precedences. Assumes nothing.
+-- An accepted event, as the code carries it out, is what document 01 makes of it. Assumes nothing.
 use Prim.Native.Nat.{ℕ, zero, suc, _<_}
-use mathlib.Core.Path.{_≡_, refl, sym, ap, _∙_}
-use mathlib.Core.Bool.{true}
+use mathlib.Core.Path.{_≡_, refl, sym, ap, subst, _∙_}
 use mathlib.Core.List.{List, [], _∷_, _++_}
 use mathlib.Core.Logic.{_≢_, _⊎_, inl, inr, ⊎-elim}
+use native.Mathlib.Decide.{ℕ-discrete, decLt}
 use native.Mathlib.Omega.{arith}
+use borrow.Author.Tests.{ne-eqb}
 use Rattle.protocol.specs.Schedule.{release}
-use Rattle.protocol.proofs.Lists.{Follows}
 use Rattle.table.specs.declared.Table.{Table}
 use Rattle.table.specs.Table.{queues, waits}
-use Rattle.table.specs.Checked.{Shape, Checked-right}
+use Rattle.table.specs.Sound.{Sound}
+use Rattle.table.specs.Checked.{Shape}
 use Rattle.table.specs.Compute.{blocker}
 use Rattle.locks.specs.declared.Record.{Record}
-use Rattle.locks.specs.declared.work.Work.{Work}
-use Rattle.locks.specs.Events.{settled, with-slot, with-queue, heir, created, exited, set-anew, requested, released}
+use Rattle.locks.specs.Events.{settled, with-slot, heir, created, exited, set-anew, requested, released}
 use Rattle.locks.specs.Count.{walk, request-count, release-count}
-use Rattle.locks.specs.Refusals.{refusals, lowest}
 use Rattle.locks.specs.Answers.{accepted, applied}
-use Rattle.locks.specs.Work.{Works, Carries-out}
-use Rattle.locks.proofs.Bare.{Bare}
+use Rattle.locks.specs.Changed.{reslotted, joined, passed-on, changed, Has-queues}
+use Rattle.locks.specs.Work.{Tracked, Sets, Exits, Asks, Releases, Worked}
 use Rattle.locks.proofs.Shapes.{slot-shape}
-use Rattle.locks.proofs.BareSlots.{fresh-bare, exit-bare}
-use Rattle.locks.proofs.BareQueues.{fits-shape, request-fits, request-bare, release-fits, release-bare}
-use Rattle.locks.proofs.Settled.{settled-sound, settled-current, settled-waits-for, settled-blocker}
+use Rattle.locks.proofs.BareQueues.{fits-shape, request-fits, release-fits}
+use Rattle.locks.proofs.Settled.{settled-current, settled-waits-for, settled-blocker}
 use Rattle.locks.proofs.Found.{found-sound}
 use Rattle.locks.proofs.Heir.{heir-follows}
 use Rattle.locks.proofs.Admitted.{Admitted, admitted, asks-idle, exits-out}
@@ -39,65 +37,114 @@ unfolding request-count
 settled-count b a cs [] = refl
 settled-count b a cs (x ∷ xs) = settled-walk b a 32 x
 
-module _ (t : Table) (e : Record) {waiting owns currents : List ℕ} (k : Checked-right t true waiting owns currents) (z : lowest (refusals t e) ≡ 0) where
-  pub admits : Admitted t e
-  admits = admitted t e (k .shape) (found-sound t k) z
+-- the table but for its stored current precedences, by the kind
+module _ (t : Table) (e : Record) where
+  pub changed-request : e .kind ≡ 4 → changed t e ≡ joined t (e .thread) (e .argument)
+  unfolding changed
+  changed-request k = rw k
 
-  carried : {a : Table} {count : ℕ} {w : Work} → Works a count w → Shape a → Bare a → accepted (settled a) count ≡ applied t e → Carries-out t e w
-  carried {a} {count} {w} o s b q = record { tracked = rw (o .table-is) (o .tracked); shape = rw (o .table-is) s; sound = rw (o .table-is) (settled-sound a s b); answer-is = rw (o .table-is, o .count-is) q }
+  pub changed-release : e .kind ≡ 5 → changed t e ≡ passed-on t (e .argument)
+  unfolding changed
+  changed-release k = rw k
+
+  pub changed-slot : e .kind < 4 → changed t e ≡ reslotted t e
+  unfolding changed
+  changed-slot h = rw (ne-eqb (e .kind) 4 (omega arith), ne-eqb (e .kind) 5 (omega arith))
+
+  changed-exit : e .kind ≡ 2 → changed t e ≡ with-slot t (e .thread) 0 0 0
+  unfolding changed
+  changed-exit k = rw k
+
+  changed-set : (e .kind ≡ 1) ⊎ (e .kind ≡ 3) → changed t e ≡ with-slot t (e .thread) 1 (e .argument) (t .clock)
+  unfolding changed
+  changed-set (inl k) = rw k
+  changed-set (inr k) = rw k
 
   -- Create and Set write the same slot
-  pub set-carried : (w : Work) → e .argument < 256 → (e .kind ≡ 1) ⊎ (e .kind ≡ 3) → Works (with-slot t (e .thread) 1 (e .argument) (t .clock)) 1 w → Carries-out t e w
+  set-answer : Admitted t e → (e .kind ≡ 1) ⊎ (e .kind ≡ 3) → accepted (settled (changed t e)) 1 ≡ applied t e
   unfolding created set-anew
-  set-carried w small kind o = carried o (slot-shape t (e .thread) 1 (e .argument) (t .clock) (k .shape)) (fresh-bare t (e .thread) (e .argument) (k .shape) (found-sound t k) (admits .clock) (admits .thread-small) (omega arith))
-      (applied-cases t e (λ d. accepted (settled (with-slot t (e .thread) 1 (e .argument) (t .clock))) 1 ≡ d) (admits .kind-from) (admits .kind-to)
+  set-answer m kind = rw (changed-set kind) (applied-cases t e (λ d. accepted (settled (with-slot t (e .thread) 1 (e .argument) (t .clock))) 1 ≡ d) (m .kind-from) (m .kind-to)
       (λ _. refl) (λ i. absurd (other 2 i (omega arith) (omega arith))) (λ _. refl) (λ i. absurd (other 4 i (omega arith) (omega arith))) (λ i. absurd (other 5 i (omega arith) (omega arith))))
     where
       other : (n : ℕ) → e .kind ≡ n → n ≢ 1 → n ≢ 3 → ⊥
       other n i a b = ⊎-elim {C = ⊥} (λ q. a (sym i ∙ q)) (λ q. b (sym i ∙ q)) kind
 
-  pub set-idle : (e .kind ≡ 1) ⊎ (e .kind ≡ 3) → (r : ℕ) → ¬ waits t (e .thread) r
-  set-idle (inl q) r w = admits .new q (found-sound t k .queues-right .live-entries r (e .thread) (w .0))
-  set-idle (inr q) r w = asks-idle admits (λ i. absurd (omega arith)) r w
-
-  pub exit-carried : (w : Work) → e .kind ≡ 2 → Works (with-slot t (e .thread) 0 0 0) 0 w → Carries-out t e w
+  exit-answer : Admitted t e → e .kind ≡ 2 → accepted (settled (changed t e)) 0 ≡ applied t e
   unfolding exited
-  exit-carried w kind o = carried o (slot-shape t (e .thread) 0 0 0 (k .shape)) (exit-bare t (e .thread) (k .shape) (found-sound t k) (admits .clock) (admits .thread-small) (exits-out admits kind))
-      (applied-cases t e (λ d. accepted (settled (with-slot t (e .thread) 0 0 0)) 0 ≡ d) (admits .kind-from) (admits .kind-to)
+  exit-answer m kind = rw (changed-exit kind) (applied-cases t e (λ d. accepted (settled (with-slot t (e .thread) 0 0 0)) 0 ≡ d) (m .kind-from) (m .kind-to)
       (λ i. absurd (omega arith)) (λ _. refl) (λ i. absurd (omega arith)) (λ i. absurd (omega arith)) (λ i. absurd (omega arith)))
 
-  pub request-carried : (w : Work) → e .kind ≡ 4 →
-      Works (with-queue t (e .argument) (queues t (e .argument) ++ (e .thread ∷ []))) (request-count t (with-queue t (e .argument) (queues t (e .argument) ++ (e .thread ∷ []))) (e .argument) (queues t (e .argument))) w → Carries-out t e w
+  request-answer : Admitted t e → e .kind ≡ 4 → (n : ℕ) → n ≡ request-count t (joined t (e .thread) (e .argument)) (e .argument) (queues t (e .argument)) → accepted (settled (changed t e)) n ≡ applied t e
   unfolding requested
-  request-carried w kind o = carried o
-      (fits-shape t cs (queues t cs ++ (th ∷ [])) (k .shape) (admits .resource-small (inl kind)) (request-fits t th cs (k .shape) (found-sound t k) (admits .alive late) (asks-idle admits late) (admits .chainless kind)))
-      (request-bare t th cs (k .shape) (found-sound t k) (admits .clock) (admits .resource-small (inl kind)) (admits .alive late) (asks-idle admits late) (admits .chainless kind))
-      (applied-cases t e (λ d. accepted (settled after) (request-count t after cs (queues t cs)) ≡ d) (admits .kind-from) (admits .kind-to)
-      (λ i. absurd (omega arith)) (λ i. absurd (omega arith)) (λ i. absurd (omega arith)) (λ _. ap (accepted (settled after)) (sym (settled-count t after cs (queues t cs)))) (λ i. absurd (omega arith)))
+  request-answer m kind n c = rw (c, changed-request kind) (applied-cases t e (λ d. accepted (settled after) (request-count t after (e .argument) (queues t (e .argument))) ≡ d) (m .kind-from) (m .kind-to)
+      (λ i. absurd (omega arith)) (λ i. absurd (omega arith)) (λ i. absurd (omega arith)) (λ _. ap (accepted (settled after)) (sym (settled-count t after (e .argument) (queues t (e .argument))))) (λ i. absurd (omega arith)))
     where
-      th : ℕ
-      th = e .thread
-
-      cs : ℕ
-      cs = e .argument
-
       after : Table
-      after = with-queue t cs (queues t cs ++ (th ∷ []))
+      after = joined t (e .thread) (e .argument)
 
-      late : e .kind ≢ 1
-      late i = absurd (omega arith)
-
-  pub release-carried : (w : Work) → e .kind ≡ 5 →
-      Works (with-queue t (e .argument) (release (queues t (e .argument)) (heir t (queues t (e .argument))))) (release-count (queues t (e .argument))) w → Carries-out t e w
+  release-answer : Admitted t e → e .kind ≡ 5 → (n : ℕ) → n ≡ release-count (queues t (e .argument)) → accepted (settled (changed t e)) n ≡ applied t e
   unfolding released
-  release-carried w kind o = carried o
-      (fits-shape t cs (release (queues t cs) (heir t (queues t cs))) (k .shape) (admits .resource-small (inr kind)) (release-fits t cs (heir t (queues t cs)) (k .shape) (found-sound t k) follows))
-      (release-bare t cs (heir t (queues t cs)) (k .shape) (found-sound t k) (admits .clock) (admits .resource-small (inr kind)) follows)
-      (applied-cases t e (λ d. accepted (settled (with-queue t cs (release (queues t cs) (heir t (queues t cs))))) (release-count (queues t cs)) ≡ d) (admits .kind-from) (admits .kind-to)
+  release-answer m kind n c = rw (c, changed-release kind) (applied-cases t e (λ d. accepted (settled (passed-on t (e .argument))) (release-count (queues t (e .argument))) ≡ d) (m .kind-from) (m .kind-to)
       (λ i. absurd (omega arith)) (λ i. absurd (omega arith)) (λ i. absurd (omega arith)) (λ i. absurd (omega arith)) (λ _. refl))
-    where
-      cs : ℕ
-      cs = e .argument
 
-      follows : Follows (queues t cs) (heir t (queues t cs))
-      follows = heir-follows t (queues t cs) (found-sound t k .queues-right .differ cs)
+-- its arrays keep their sizes
+pub changed-shape : (t : Table) (e : Record) → Shape t → Sound t → Admitted t e → Shape (changed t e)
+changed-shape t e s sound m = go (decLt (e .kind) 4) (ℕ-discrete (e .kind) 4)
+  where
+    late : ¬ (e .kind < 4) → e .kind ≢ 1
+    late n i = absurd (omega arith)
+
+    go : Dec (e .kind < 4) → Dec (e .kind ≡ 4) → Shape (changed t e)
+    go (yes h) d = rw (changed-slot t e h) (slot-shape t (e .thread) _ _ _ s)
+    go (no n) (yes k) = rw (changed-request t e k) (fits-shape t (e .argument) (queues t (e .argument) ++ (e .thread ∷ [])) s (m .resource-small (inl k)) (request-fits t (e .thread) (e .argument) s sound (m .alive (late n)) (asks-idle m (late n)) (m .chainless k)))
+    go (no n) (no d) =
+        let k : e .kind ≡ 5 = omega (arith, m .kind-to) in
+        rw (changed-release t e k) (fits-shape t (e .argument) (release (queues t (e .argument)) (heir t (queues t (e .argument)))) s (m .resource-small (inr k)) (release-fits t (e .argument) (heir t (queues t (e .argument))) s sound (heir-follows t (queues t (e .argument)) (sound .queues-right .differ (e .argument)))))
+
+-- each kind may do what it does, and what it leaves is right
+module _ {queue lengths owns waiting currents : List ℕ} {now : ℕ} (t : Table) (e : Record) (w : Worked t e queue lengths owns waiting currents now) where
+  pub admits : Admitted t e
+  admits = admitted t e (w .checked .shape) (found-sound t (w .checked)) (w .unrefused)
+
+  pub asks : e .kind ≡ 4 → Asks t waiting owns currents (e .thread) (e .argument) × Has-queues (joined t (e .thread) (e .argument)) queue lengths
+  asks kind = (
+    record { checked = w .checked; early = admits .clock; resource = admits .resource-small (inl kind); alive = admits .alive (omega arith); idle = asks-idle admits (omega arith); chainless = admits .chainless kind },
+    subst (λ (u : Table). Has-queues u queue lengths) (changed-request t e kind) (w .queues-are),
+  )
+
+  pub releases : e .kind ≡ 5 → Releases t waiting owns currents (e .thread) (e .argument) × Has-queues (passed-on t (e .argument)) queue lengths
+  releases kind = (
+    record { checked = w .checked; early = admits .clock; resource = admits .resource-small (inr kind); head = admits .holding kind; idle = asks-idle admits (omega arith) },
+    subst (λ (u : Table). Has-queues u queue lengths) (changed-release t e kind) (w .queues-are),
+  )
+
+  pub exits : e .kind ≡ 2 → Exits t waiting owns currents (e .thread)
+  exits kind = record { checked = w .checked; early = admits .clock; thread = admits .thread-small; alone = exits-out admits kind }
+
+  pub sets : (e .kind ≡ 1) ⊎ (e .kind ≡ 3) → Sets t waiting owns currents (e .thread)
+  sets kind = record { checked = w .checked; early = admits .clock; thread = admits .thread-small; idle = idle kind }
+    where
+      idle : (e .kind ≡ 1) ⊎ (e .kind ≡ 3) → (r : ℕ) → ¬ waits t (e .thread) r
+      idle (inl q) r v = admits .new q (found-sound t (w .checked) .queues-right .live-entries r (e .thread) (v .0))
+      idle (inr q) r v = asks-idle admits (λ i. absurd (omega arith)) r v
+
+  -- Create and Set leave the queues as they were
+  pub set-queues : (e .kind ≡ 1) ⊎ (e .kind ≡ 3) → (queue ≡ t .queue) × (lengths ≡ t .length)
+  unfolding with-slot
+  set-queues kind = (w .queues-are .queue-is ∙ ap (λ (u : Table). u .queue) (changed-set t e kind), w .queues-are .length-is ∙ ap (λ (u : Table). u .length) (changed-set t e kind))
+
+  -- the numbers are those of the table after the event, and with the count they make its answer
+  abbrev Right : List ℕ → List ℕ → ℕ → Type 0
+  Right ws cs n = Tracked (changed t e) ws cs × (accepted (settled (changed t e)) n ≡ applied t e)
+
+  pub request-right : {ws cs : List ℕ} {n : ℕ} → e .kind ≡ 4 → Tracked (joined t (e .thread) (e .argument)) ws cs × (n ≡ request-count t (joined t (e .thread) (e .argument)) (e .argument) (queues t (e .argument))) → Right ws cs n
+  request-right {n = n} kind (o, c) = (rw (changed-request t e kind) o, request-answer t e admits kind n c)
+
+  pub release-right : {ws cs : List ℕ} {n : ℕ} → e .kind ≡ 5 → Tracked (passed-on t (e .argument)) ws cs × (n ≡ release-count (queues t (e .argument))) → Right ws cs n
+  release-right {n = n} kind (o, c) = (rw (changed-release t e kind) o, release-answer t e admits kind n c)
+
+  pub exit-right : {ws cs : List ℕ} {n : ℕ} → e .kind ≡ 2 → Tracked (with-slot t (e .thread) 0 0 0) ws cs → n ≡ 0 → Right ws cs n
+  exit-right kind o c = (rw (changed-exit t e kind) o, rw c (exit-answer t e admits kind))
+
+  pub set-right : {ws cs : List ℕ} {n : ℕ} → (e .kind ≡ 1) ⊎ (e .kind ≡ 3) → Tracked (with-slot t (e .thread) 1 (e .argument) now) ws cs → n ≡ 1 → Right ws cs n
+  set-right kind o c = (rw (changed-set t e kind) (rw (w .now-is) at o), rw c (set-answer t e admits kind))

@@ -1,4 +1,4 @@
--- The end of an accepted event: from the numbers of a table in work, the settled table and its running thread. Assumes nothing.
+-- The end of an accepted event: from the numbers of a table, the settled table and its running thread. Assumes nothing.
 use Prim.Native.Nat.{ℕ, _/_, _≤_, _<_}
 use mathlib.Core.Path.{_≡_, refl, sym, ap, subst, _∙_, Σ-path}
 use mathlib.Core.Bool.{true}
@@ -6,6 +6,7 @@ use mathlib.Core.List.{List}
 use native.Mathlib.Decide.{ℕ-discrete}
 use native.Mathlib.Omega.{arith}
 use borrow.Author.Tests.{eq-eqb, ne-eqb}
+use lib.ListN.{length}
 use Rattle.protocol.specs.Sets.{_∈_}
 use Rattle.protocol.specs.Events.{Precedence}
 use Rattle.protocol.specs.Rank.{rank}
@@ -19,7 +20,8 @@ use Rattle.table.specs.Walks.{runner as highest-ready}
 use Rattle.table.specs.Compute.{current, runner}
 use Rattle.table.proofs.Soundness.{sound-orderly}
 use Rattle.locks.specs.Events.{settled, tabulate}
-use Rattle.locks.specs.Work.{time-in, Tracked, Stored}
+use Rattle.locks.specs.Changed.{with-current}
+use Rattle.locks.specs.Work.{time-in, Tracked}
 use Rattle.locks.proofs.OfSound.{waited}
 use Rattle.locks.proofs.Bridge.{runner-is}
 use Rattle.locks.proofs.Tabulate.{tabulate-at}
@@ -55,16 +57,17 @@ module _ (t : Table) (shape : Shape t) (s : Sound (settled t)) {waits currents :
       go (yes l) = let c = current-low th l in rw (live-number th h l, number-back (current t th) (c .1) .0) (omega (arith, c .0))
       go (no n) = rw (dead-number th h n) (omega arith)
 
-  -- what is stored from the numbers is the settled table
-  pub stored-settled : (a : Table) → Stored t currents 32 a → a ≡ settled t
-  stored-settled a w = w .table-is ∙ settles t shape (a .«current_priority») (a .«current_time») (w .priority-size) (w .time-size) alive dead
+  -- what is stored from the numbers makes the settled table
+  pub stored-settled : (cp ct : List ℕ) → length cp ≡ 32 → length ct ≡ 32 → ((th : ℕ) → th < 32 → at cp th ≡ at currents th / 65536) → ((th : ℕ) → th < 32 → at ct th ≡ time-in (at currents th)) →
+      with-current t cp ct ≡ settled t
+  stored-settled cp ct m n priorities times = settles t shape cp ct m n alive dead
     where
-      alive : (th : ℕ) → th < 32 → th ∈ live t → (at (a .«current_priority») th, at (a .«current_time») th) ≡ current t th
+      alive : (th : ℕ) → th < 32 → th ∈ live t → (at cp th, at ct th) ≡ current t th
       alive th h l = let b = number-back (current t th) (current-low th l .1) in let e = live-number th h l in
-          Σ-path (w .priorities th h ∙ ap (λ (n : ℕ). n / 65536) e ∙ b .0) (w .times th h ∙ ap time-in e ∙ b .1)
+          Σ-path (priorities th h ∙ ap (λ (n : ℕ). n / 65536) e ∙ b .0) (times th h ∙ ap time-in e ∙ b .1)
 
-      dead : (th : ℕ) → th < 32 → ¬ (th ∈ live t) → (at (a .«current_priority») th ≡ 0) × (at (a .«current_time») th ≡ 0)
-      dead th h n = let e = dead-number th h n in (w .priorities th h ∙ ap (λ (m : ℕ). m / 65536) e, w .times th h ∙ ap time-in e)
+      dead : (th : ℕ) → th < 32 → ¬ (th ∈ live t) → (at cp th ≡ 0) × (at ct th ≡ 0)
+      dead th h n = let e = dead-number th h n in (priorities th h ∙ ap (λ (m : ℕ). m / 65536) e, times th h ∙ ap time-in e)
 
   -- the number of a slot's own precedence
   abbrev own-slot : ℕ → ℕ

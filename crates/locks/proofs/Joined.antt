@@ -11,16 +11,21 @@ use Rattle.table.specs.declared.Table.{Table}
 use Rattle.table.specs.Table.{at, queues}
 use Rattle.table.specs.Sound.{Sound}
 use Rattle.table.specs.Checked.{Shape}
-use Rattle.locks.proofs.Splice.{rewritten}
+use Rattle.locks.specs.Rows.{rewritten}
 use Rattle.locks.proofs.Written.{row-is}
 use Rattle.locks.proofs.OfSound.{queue-length}
+use Rattle.locks.proofs.BareQueues.{Queue-fits, queue-short}
+
+-- where a queue has a place for one more, its length is below 32
+pub room-for : (t : Table) (cs th : ℕ) → Shape t → Sound t → cs < 16 → Queue-fits t cs (queues t cs ++ (th ∷ [])) → at (t .length) cs < 32
+room-for t cs th shape s low f = omega (arith, queue-short t cs (queues t cs ++ (th ∷ [])) shape f, length-append (queues t cs) (th ∷ []), queue-length t shape s cs low)
 
 module _ (t : Table) (cs th : ℕ) (shape : Shape t) (s : Sound t) (low : cs < 16) (room : at (t .length) cs < 32) where
   pub joined-length : length (queues t cs ++ (th ∷ [])) ≡ at (t .length) cs + 1
   joined-length = length-append (queues t cs) (th ∷ []) ∙ ap (λ (n : ℕ). n + 1) (queue-length t shape s cs low)
 
-  pub joined : set (t .queue) (cs * 32 + at (t .length) cs) th ≡ rewritten (t .queue) (cs * 32) (queues t cs ++ (th ∷ []))
-  joined = row-is (t .queue) (cs * 32) (queues t cs ++ (th ∷ [])) (omega (arith, shape .queue-size)) (omega (arith, joined-length)) (set (t .queue) place th) (record {
+  pub joined-places : set (t .queue) (cs * 32 + at (t .length) cs) th ≡ rewritten (t .queue) (cs * 32) (queues t cs ++ (th ∷ []))
+  joined-places = row-is (t .queue) (cs * 32) (queues t cs ++ (th ∷ [])) (omega (arith, shape .queue-size)) (omega (arith, joined-length)) (set (t .queue) place th) (record {
     size = length-set (t .queue) place th;
     outside = λ j h. getD-set-other (t .queue) place j th 0 (away j h);
     entries = λ i h. inside i (decLt i (at (t .length) cs)) (omega (arith, joined-length));

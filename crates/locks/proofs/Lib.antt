@@ -35,5 +35,7 @@ pub mod Passing
 pub mod Successor
 pub mod Releases
 pub mod CarriedOut
+pub mod Requeued
 pub mod Answered
+pub mod Stepped
 pub mod Sixteen

@@ -14,7 +14,8 @@ use Rattle.table.specs.Table.{at, queues}
 use Rattle.table.specs.Checked.{Shape}
 use Rattle.table.proofs.Sums.{beyond}
 use Rattle.locks.specs.Events.{with-queue}
-use Rattle.locks.proofs.Splice.{rewritten, row-there, row-else, row-outside, row-spare}
+use Rattle.locks.specs.Rows.{rewritten}
+use Rattle.locks.proofs.Splice.{row-there, row-else, row-outside, row-spare}
 
 module _ (t : Table) (cs : ℕ) (q : List ℕ) (s : Shape t) (low : cs < 16) (short : length q ≤ 32) where
   -- the row of cs lies within the places

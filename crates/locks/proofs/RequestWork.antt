@@ -1,16 +1,15 @@
 -- A thread joins a queue: whose numbers may change, and where the walk begins. Assumes nothing.
-use Prim.Native.Nat.{ℕ, _≤_, _<_}
+use Prim.Native.Nat.{ℕ, _+_, _*_, _≤_, _<_}
 use mathlib.Core.Path.{_≡_, refl, sym, ap, subst, _∙_}
-use mathlib.Core.Bool.{true}
 use mathlib.Core.List.{List, [], _∷_, _++_}
 use mathlib.Core.Logic.{_≢_, _⊎_, inl, inr, ⊎-elim, by-cases}
 use native.Mathlib.Decide.{ℕ-discrete}
 use native.Mathlib.Omega.{arith}
 use lib.ListN
-use lib.ListN.{set, length-append}
+use lib.ListN.{set}
 use lib.Seq.{getD-set-same, getD-set-other}
 use Rattle.protocol.specs.Sets.{_∈_, hd, only, _∪_, image}
-use Rattle.protocol.specs.Graph.{Queues, RAG, T, C, _⁺, waits as waits-in}
+use Rattle.protocol.specs.Graph.{Queues, waits as waits-in}
 use Rattle.protocol.specs.Schedule.{update}
 use Rattle.protocol.specs.Children.{children}
 use Rattle.protocol.proofs.Highest.{max-map}
@@ -18,7 +17,7 @@ use Rattle.protocol.proofs.Ways.{one-holder}
 use Rattle.protocol.proofs.Forest.{Joins, join-children, children-join, join-waits, waits-join, newly-waits}
 use Rattle.table.specs.declared.Table.{Table}
 use Rattle.table.specs.Table.{at, live, queues, waits, holds}
-use Rattle.table.specs.Checked.{Checked-right, Shape}
+use Rattle.table.specs.Checked.{Shape}
 use Rattle.table.specs.Parts.{entry}
 use Rattle.table.specs.Walks.{Ending}
 use Rattle.table.specs.Compute.{waits-for}
@@ -26,14 +25,15 @@ use Rattle.table.proofs.Rows.{holds-first}
 use Rattle.table.proofs.Worth.{≤-total}
 use Rattle.table.proofs.Computed.{waits-for-is, waits-for-cases, sixteen}
 use Rattle.locks.specs.Events.{with-queue}
-use Rattle.locks.specs.Work.{Tracked}
+use Rattle.locks.specs.Changed.{joined}
+use Rattle.locks.specs.Work.{Asks, Tracked}
 use Rattle.locks.proofs.Values.{Good, hops, own-number, Lawful, all-worth, Stands-at, resource-low, thread-low, current-fits}
 use Rattle.locks.specs.Count.{walk, request-count}
 use Rattle.locks.specs.Climb.{Climbed}
 use Rattle.locks.proofs.Walked.{Given, ending, climbed, climbed-short}
-use Rattle.locks.proofs.OfSound.{queue-length}
 use Rattle.locks.proofs.Bridge.{waits-is}
 use Rattle.locks.proofs.Bare.{Bare}
+use Rattle.locks.proofs.Joined.{room-for, joined-length, joined-places}
 use Rattle.locks.proofs.Queued.{queues-queued}
 use Rattle.locks.proofs.BareQueues.{Queue-fits, queue-short, fits-shape, request-fits, request-bare}
 use Rattle.locks.proofs.Settled.{bare-good}
@@ -45,18 +45,9 @@ unfolding request-count
 taken-count b a cs h [] i = absurd i
 taken-count b a cs h (x ∷ xs) i = ap (walk 32 b a) (sym i)
 
--- th may ask for cs: it is live and waits for nothing, and no chain leads from cs to it
-pub record Asks (t : Table) (waiting owns currents : List ℕ) (th cs : ℕ) : Type 0 where
-  pub checked : Checked-right t true waiting owns currents
-  pub early : t .clock < 65535
-  pub resource : cs < 16
-  pub alive : th ∈ live t
-  pub idle : (r : ℕ) → ¬ waits t th r
-  pub chainless : ¬ (RAG (queues t) ⁺) (C cs) (T th)
-
 module _ (t : Table) {waiting owns currents : List ℕ} (th cs : ℕ) (k : Asks t waiting owns currents th cs) where
   abbrev pub after : Table
-  after = with-queue t cs (queues t cs ++ (th ∷ []))
+  after = joined t th cs
 
   fits : Queue-fits t cs (queues t cs ++ (th ∷ []))
   fits = request-fits t th cs (k .checked .shape) (found-sound t (k .checked)) (k .alive) (k .idle) (k .chainless)
@@ -165,8 +156,8 @@ module _ (t : Table) {waiting owns currents : List ℕ} (th cs : ℕ) (k : Asks 
         )
 
   -- there is room for one more
-  pub room : at (t .length) cs < 32
-  room = omega (arith, queue-short t cs (queues t cs ++ (th ∷ [])) (k .checked .shape) fits, length-append (queues t cs) (th ∷ []), queue-length t (k .checked .shape) (found-sound t (k .checked)) cs (k .resource))
+  room : at (t .length) cs < 32
+  room = room-for t cs th (k .checked .shape) (found-sound t (k .checked)) (k .resource) fits
 
   -- a queue of length 0 has no holder; another has its first entry
   pub unheld : at (t .length) cs ≡ 0 → (v : ℕ) → ¬ holds t v cs
@@ -178,3 +169,16 @@ module _ (t : Table) {waiting owns currents : List ℕ} (th cs : ℕ) (k : Asks 
   pub free-count : at (t .length) cs ≡ 0 → 0 ≡ request-count t after cs (queues t cs)
   unfolding request-count
   free-count z = rw z
+
+  -- the queue is one longer, and where somebody stood in it the head stays
+  pub longer : at (after .length) cs ≡ at (t .length) cs + 1
+  unfolding with-queue
+  longer = getD-set-same (t .length) cs (ListN.length (queues t cs ++ (th ∷ []))) 0 (omega (arith, k .checked .shape .length-size, k .resource)) ∙ joined-length t cs th (k .checked .shape) (found-sound t (k .checked)) (k .resource) room
+
+  pub same-head : at (t .length) cs ≢ 0 → at (after .queue) (cs * 32) ≡ entry (t .queue) cs 0
+  unfolding with-queue
+  same-head n =
+      let e : cs * 32 ≡ cs * 32 + 0 = omega arith in
+      ap (λ (xs : List ℕ). at xs (cs * 32)) (sym (joined-places t cs th (k .checked .shape) (found-sound t (k .checked)) (k .resource) room))
+      ∙ getD-set-other (t .queue) (cs * 32 + at (t .length) cs) (cs * 32) th 0 (omega (arith, n))
+      ∙ ap (at (t .queue)) e

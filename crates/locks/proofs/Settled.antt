@@ -18,7 +18,7 @@ use Rattle.table.proofs.Sums.{beyond}
 use Rattle.table.proofs.Rows.{live-low}
 use Rattle.table.proofs.Computed.{tells-live}
 use Rattle.locks.specs.Events.{settled}
-use Rattle.locks.specs.Work.{with-current}
+use Rattle.locks.specs.Changed.{with-current}
 use Rattle.locks.proofs.Values.{Good, current-defined}
 use Rattle.locks.proofs.Bare.{Bare, bare-orderly}
 use Rattle.locks.proofs.Tabulate.{tabulate-length, tabulate-at}

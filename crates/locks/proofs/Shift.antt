@@ -1,4 +1,4 @@
--- Moving the places behind the heir up one by one, and the table that this leaves. Assumes nothing.
+-- Moving the places behind the heir up one by one, and the row that this leaves. Assumes nothing.
 use Prim.Native.Nat.{ℕ, _+_, _*_, _-_, _≤_, _<_}
 use mathlib.Core.Path.{_≡_, refl, sym, ap, subst, _∙_}
 use mathlib.Core.Option.{some}
@@ -8,20 +8,13 @@ use native.Mathlib.Decide.{ℕ-discrete, decLt}
 use native.Mathlib.Omega.{arith}
 use lib.ListN.{length, take, drop, set, length-set}
 use lib.Seq.{getD-set-same, getD-set-other}
-use Rattle.protocol.specs.Sets.{distinct}
 use Rattle.protocol.specs.Schedule.{release}
-use Rattle.table.specs.declared.Table.{Table}
-use Rattle.table.specs.Table.{at, queues}
+use Rattle.table.specs.Table.{at}
 use Rattle.table.specs.Parts.{entry}
-use Rattle.table.specs.Checked.{table-of}
 use Rattle.table.proofs.Places.{part-length, part-at}
-use Rattle.locks.specs.Events.{with-queue}
-use Rattle.locks.proofs.Written.{Row-has, queue-written}
+use Rattle.locks.specs.Rows.{Row, rewritten}
+use Rattle.locks.proofs.Written.{Row-has, row-is}
 use Rattle.locks.proofs.MovedUp.{Moved-up, moved-up}
-
--- the table with other queue places
-abbrev pub with-places : Table → List ℕ → Table
-with-places t q = table-of (t .clock) (t .live) (t .priority) (t .time) (t .«current_priority») (t .«current_time») q (t .length)
 
 -- ys is xs with the places from `from` up to i filled each from the one behind it
 pub record Shifted (xs : List ℕ) (from i : ℕ) (ys : List ℕ) : Type 0 where
@@ -79,24 +72,27 @@ handed-over xs a p n ys q fits short l h zero s m = record {
         rw f (getD-set-other (set ys (a + n - 1) 0) a (a + n - 1) (at xs (a + p)) 0 (omega arith) ∙ getD-set-same ys (a + n - 1) 0 0 (omega (arith, s .size)))
     beyond i k b (no e) = let c : n ≤ i = omega (arith, m .size, all) in untouched (a + i) (omega arith) (omega arith) ∙ s .kept (a + i) (inr (omega arith)) ∙ zero i c b
 
--- so the table has the queue that the release leaves
-pub handed-table : (t : Table) (r p n : ℕ) (ys : List ℕ) → length (t .queue) ≡ 512 → r < 16 → n ≤ 32 → at (t .length) r ≡ n → 1 ≤ p → p < n → distinct (queues t r) →
-    ((i : ℕ) → n ≤ i → i < 32 → entry (t .queue) r i ≡ 0) → Shifted (t .queue) (r * 32 + p) (r * 32 + n - 1) ys →
-    table-of (t .clock + 1) (t .live) (t .priority) (t .time) (t .«current_priority») (t .«current_time») (set (set ys (r * 32 + n - 1) 0) (r * 32) (entry (t .queue) r p)) (set (t .length) r (n - 1))
-    ≡ with-queue t r (release (queues t r) (some (entry (t .queue) r p)))
-handed-table t r p n ys size low short e l h d zero s =
-    queue-written t r (n - 1) (release (queues t r) (some (entry (t .queue) r p))) (set (set ys (r * 32 + n - 1) 0) (r * 32) (entry (t .queue) r p)) (omega arith) (omega (arith, moved .size, all))
-    (handed-over (t .queue) (r * 32) p n ys (release (queues t r) (some (entry (t .queue) r p))) (omega arith) short l h zero s (subst (λ (q : List ℕ). Moved-up q p (release (queues t r) (some (entry (t .queue) r p)))) row moved))
-    (omega (arith, moved .size, all))
-  where
-    row : queues t r ≡ take n (drop (r * 32) (t .queue))
-    row = ap (λ (m : ℕ). take m (drop (r * 32) (t .queue))) e
+-- the row of a queue in which the entry at p follows
+module _ (xs : List ℕ) (r p n : ℕ) (w : Row xs r n) (l : 1 ≤ p) (h : p < n) where
+  abbrev row : List ℕ
+  row = take n (drop (r * 32) xs)
 
-    all : length (queues t r) ≡ n
-    all = ap length row ∙ part-length (t .queue) (r * 32) n (inr (omega arith))
+  all : length row ≡ n
+  all = part-length xs (r * 32) n (inr (omega (arith, w .size, w .resource, w .short)))
 
-    there : at (queues t r) p ≡ entry (t .queue) r p
-    there = ap (λ (q : List ℕ). at q p) row ∙ part-at (t .queue) (r * 32) n (inr (omega arith)) p h
+  there : at row p ≡ entry xs r p
+  there = part-at xs (r * 32) n (inr (omega (arith, w .size, w .resource, w .short))) p h
 
-    moved : Moved-up (queues t r) p (release (queues t r) (some (entry (t .queue) r p)))
-    moved = subst (λ (x : ℕ). Moved-up (queues t r) p (release (queues t r) (some x))) there (moved-up (queues t r) p d l (omega (arith, all)))
+  moved : Moved-up row p (release row (some (entry xs r p)))
+  moved = subst (λ (x : ℕ). Moved-up row p (release row (some x))) there (moved-up row p (w .differ) l (omega (arith, all)))
+
+  -- it is one shorter
+  pub handed-length : length (release (take n (drop (r * 32) xs)) (some (entry xs r p))) ≡ n - 1
+  handed-length = omega (arith, moved .size, all)
+
+  -- and it is what the code leaves
+  pub handed-row : (ys : List ℕ) → Shifted xs (r * 32 + p) (r * 32 + n - 1) ys →
+      set (set ys (r * 32 + n - 1) 0) (r * 32) (entry xs r p) ≡ rewritten xs (r * 32) (release (take n (drop (r * 32) xs)) (some (entry xs r p)))
+  handed-row ys s =
+      row-is xs (r * 32) (release row (some (entry xs r p))) (omega (arith, w .size, w .resource)) (omega (arith, handed-length, w .short)) (set (set ys (r * 32 + n - 1) 0) (r * 32) (entry xs r p))
+      (handed-over xs (r * 32) p n ys (release row (some (entry xs r p))) (omega (arith, w .size, w .resource)) (w .short) l h (w .spare) s moved)

@@ -8,18 +8,11 @@ use lib.ListN.{length, take, drop, replicate, length-append, length-take, length
 use lib.Seq.{take-at, drop-at, ext-getD, getD-append-add, getD-take, getD-drop}
 use Rattle.table.specs.Table.{at}
 use Rattle.table.proofs.Places.{part-length, part-at}
+use Rattle.locks.specs.Rows.{behind, rewritten}
 
 -- past the first list
 pub at-past : (xs ys : List ℕ) (n k : ℕ) → length xs ≡ n → at (xs ++ ys) (n + k) ≡ at ys k
 at-past xs ys n k e = rw (← e) (getD-append-add xs ys k 0)
-
--- what comes behind q: zeros to the end of its row, and what stood after the row
-abbrev pub behind : List ℕ → ℕ → List ℕ → List ℕ
-behind xs a q = replicate (32 - length q) 0 ++ drop (a + 32) xs
-
--- the row from a on becomes q, and zeros behind it
-abbrev pub rewritten : List ℕ → ℕ → List ℕ → List ℕ
-rewritten xs a q = take a xs ++ (q ++ behind xs a q)
 
 module _ (xs : List ℕ) (a : ℕ) (q : List ℕ) (fits : a + 32 ≤ length xs) (short : length q ≤ 32) where
   -- what stands before the row

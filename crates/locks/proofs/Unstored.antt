@@ -6,7 +6,7 @@ use Rattle.protocol.specs.Events.{Precedence}
 use Rattle.table.specs.declared.Table.{Table}
 use Rattle.table.specs.Table.{at}
 use Rattle.table.specs.Compute.{is-live, holder, is-waiting, waits-for, blocker, depends, highest-behind, current, is-ready, leader, runner}
-use Rattle.locks.specs.Work.{with-current}
+use Rattle.locks.specs.Changed.{with-current}
 
 module _ (t : Table) (cp ct : List ℕ) where
   -- what a thread waits for, and whom

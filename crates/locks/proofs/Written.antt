@@ -1,5 +1,5 @@
--- A row of places that was written one by one is the row rewritten, and the table with it is the one with that queue. Assumes nothing.
-use Prim.Native.Nat.{ℕ, _+_, _*_, _-_, _≤_, _<_}
+-- A row of places that was written one by one is the row rewritten. Assumes nothing.
+use Prim.Native.Nat.{ℕ, _+_, _-_, _≤_, _<_}
 use mathlib.Core.Path.{_≡_, sym, ap, _∙_}
 use mathlib.Core.List.{List, []}
 use mathlib.Core.Logic.{_⊎_, inl, inr, ⊎-elim}
@@ -7,12 +7,10 @@ use native.Mathlib.Decide.{ℕ-discrete, decLt}
 use native.Mathlib.Omega.{arith}
 use lib.ListN.{length, set, length-set}
 use lib.Seq.{ext-getD, getD-set-same, getD-set-other}
-use Rattle.table.specs.declared.Table.{Table}
 use Rattle.table.specs.Table.{at}
-use Rattle.table.specs.Checked.{table-of}
 use Rattle.table.proofs.Places.{part-at}
-use Rattle.locks.specs.Events.{with-queue}
-use Rattle.locks.proofs.Splice.{rewritten, row-length, row-outside, row-spare, row-there}
+use Rattle.locks.specs.Rows.{rewritten}
+use Rattle.locks.proofs.Splice.{row-length, row-outside, row-spare, row-there}
 
 -- ys is xs but for the row of 32 from a on, which has the entries of q, and zeros behind them
 pub record Row-has (xs : List ℕ) (a : ℕ) (q ys : List ℕ) : Type 0 where
@@ -23,7 +21,7 @@ pub record Row-has (xs : List ℕ) (a : ℕ) (q ys : List ℕ) : Type 0 where
 
 -- that is the row rewritten
 module _ (xs : List ℕ) (a : ℕ) (q : List ℕ) (fits : a + 32 ≤ length xs) (short : length q ≤ 32) where
-  row-inside : (i : ℕ) → i < length q → at (rewritten xs a q) (a + i) ≡ at q i
+  pub row-inside : (i : ℕ) → i < length q → at (rewritten xs a q) (a + i) ≡ at q i
   row-inside i h = sym (part-at (rewritten xs a q) a (length q) (inr (omega (arith, row-length xs a q fits short))) i h) ∙ ap (λ (l : List ℕ). at l i) (row-there xs a q fits short)
 
   pub row-is : (ys : List ℕ) → Row-has xs a q ys → ys ≡ rewritten xs a q
@@ -34,12 +32,6 @@ module _ (xs : List ℕ) (a : ℕ) (q : List ℕ) (fits : a + 32 ≤ length xs) 
       go j (no n) (yes d) e = let k : j ≡ a + (j - a) = omega arith in rw k (h .entries (j - a) (omega arith) ∙ sym (row-inside (j - a) (omega arith)))
       go j (no n) (no m) (yes e) = let k : j ≡ a + (j - a) = omega arith in rw k (h .spare (j - a) (omega arith) (omega arith) ∙ sym (row-spare xs a q fits short (j - a) (omega arith) (omega arith)))
       go j (no n) (no m) (no f) = h .outside j (inr (omega arith)) ∙ sym (row-outside xs a q fits short j (inr (omega arith)))
-
--- one event more, and a row written as q: the table with the queue q
-pub queue-written : (t : Table) (r n : ℕ) (q ys : List ℕ) → r * 32 + 32 ≤ length (t .queue) → length q ≤ 32 → Row-has (t .queue) (r * 32) q ys → n ≡ length q →
-    table-of (t .clock + 1) (t .live) (t .priority) (t .time) (t .«current_priority») (t .«current_time») ys (set (t .length) r n) ≡ with-queue t r q
-unfolding with-queue
-queue-written t r n q ys fits short h e = rw (e, row-is (t .queue) (r * 32) q fits short ys h)
 
 -- the row of one entry, emptied
 pub emptied : (xs : List ℕ) (a : ℕ) → a + 32 ≤ length xs → ((i : ℕ) → 1 ≤ i → i < 32 → at xs (a + i) ≡ 0) → Row-has xs a [] (set xs a 0)

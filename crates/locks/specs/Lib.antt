@@ -8,6 +8,8 @@ pub mod Queries
 -- How the code goes about it.
 pub mod Refusing
 pub mod Climb
+pub mod Changed
+pub mod Rows
 pub mod Work
 pub mod Heir
 pub mod Afresh

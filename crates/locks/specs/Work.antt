@@ -1,22 +1,20 @@
--- A table in work: its event is done but for the stored current precedences, and the numbers that go with it are at hand. Assumes
--- nothing.
-use Prim.Native.Nat.{ℕ, _-_, _/_, _%_, _<_}
+-- The numbers that go with a table: what an event may count on, and what it leaves. Assumes nothing.
+use Prim.Native.Nat.{ℕ, _-_, _%_, _<_}
 use mathlib.Core.Path.{_≡_}
-use mathlib.Core.Bool.{cond}
+use mathlib.Core.Bool.{true, cond}
 use mathlib.Core.List.{List}
 use lib.Dec.{eqb}
-use lib.ListN.{length}
-use Rattle.protocol.specs.Events.{Thread}
+use Rattle.protocol.specs.Sets.{_∈_, set}
+use Rattle.protocol.specs.Events.{Thread, Resource}
+use Rattle.protocol.specs.Graph.{RAG, T, C, _⁺}
 use Rattle.protocol.specs.Rank.{rank}
 use Rattle.table.specs.declared.Table.{Table}
-use Rattle.table.specs.Table.{at}
+use Rattle.table.specs.Table.{at, live, queues, holds, waits}
 use Rattle.table.specs.Compute.{is-live, waits-for, current}
-use Rattle.table.specs.Sound.{Sound}
-use Rattle.table.specs.Checked.{Shape}
+use Rattle.table.specs.Checked.{Checked-right}
 use Rattle.locks.specs.declared.Record.{Record}
-use Rattle.locks.specs.declared.work.Work.{Work}
-use Rattle.locks.specs.Events.{settled}
-use Rattle.locks.specs.Answers.{accepted, applied}
+use Rattle.locks.specs.Refusals.{refusals, lowest}
+use Rattle.locks.specs.Changed.{changed, Has-queues}
 
 -- the number of a thread's current precedence, 0 if it isn't live
 abbrev pub current-number : Table → Thread → ℕ
@@ -27,40 +25,44 @@ pub record Tracked (t : Table) (waits currents : List ℕ) : Type 0 where
   pub waits-right : (th : Thread) → th < 32 → at waits th ≡ waits-for t th
   pub currents-right : (th : Thread) → th < 32 → at currents th ≡ current-number t th
 
--- w has this table, but for the stored current precedences, and this count
-pub record Works (t : Table) (count : ℕ) (w : Work) : Type 0 where
-  pub table-is : w .table ≡ t
-  pub tracked : Tracked t (w .waits) (w .current)
-  pub count-is : w .count ≡ count
+-- th may be set: there is such a thread, and it waits for nothing
+pub record Sets (t : Table) (waiting owns currents : List ℕ) (th : Thread) : Type 0 where
+  pub checked : Checked-right t true waiting owns currents
+  pub early : t .clock < 65535
+  pub thread : th < 32
+  pub idle : (r : Resource) → ¬ waits t th r
 
--- the table with these stored current precedences
-abbrev pub with-current : Table → List ℕ → List ℕ → Table
-with-current t cp ct = record {
-  clock = t .clock;
-  live = t .live;
-  priority = t .priority;
-  time = t .time;
-  «current_priority» = cp;
-  «current_time» = ct;
-  queue = t .queue;
-  length = t .length;
-}
+-- th may exit: it stands in no queue
+pub record Exits (t : Table) (waiting owns currents : List ℕ) (th : Thread) : Type 0 where
+  pub checked : Checked-right t true waiting owns currents
+  pub early : t .clock < 65535
+  pub thread : th < 32
+  pub alone : (r : Resource) → ¬ (th ∈ set (queues t r))
+
+-- th may ask for cs: it is live and waits for nothing, and no chain leads from cs to it
+pub record Asks (t : Table) (waiting owns currents : List ℕ) (th : Thread) (cs : Resource) : Type 0 where
+  pub checked : Checked-right t true waiting owns currents
+  pub early : t .clock < 65535
+  pub resource : cs < 16
+  pub alive : th ∈ live t
+  pub idle : (r : Resource) → ¬ waits t th r
+  pub chainless : ¬ (RAG (queues t) ⁺) (C cs) (T th)
+
+-- th may release cs: it holds it, and waits for nothing
+pub record Releases (t : Table) (waiting owns currents : List ℕ) (th : Thread) (cs : Resource) : Type 0 where
+  pub checked : Checked-right t true waiting owns currents
+  pub early : t .clock < 65535
+  pub resource : cs < 16
+  pub head : holds t th cs
+  pub idle : (r : Resource) → ¬ waits t th r
+
+-- an accepted event: the numbers before it, the queues after it, and its time
+pub record Worked (t : Table) (e : Record) (queue length owns waiting currents : List ℕ) (now : ℕ) : Type 0 where
+  pub checked : Checked-right t true waiting owns currents
+  pub unrefused : lowest (refusals t e) ≡ 0
+  pub queues-are : Has-queues (changed t e) queue length
+  pub now-is : now ≡ t .clock
 
 -- the time in the number of a precedence; 0 in the number 0, which is nobody's
 abbrev pub time-in : ℕ → ℕ
 time-in n = cond (eqb n 0) 0 (65535 - n % 65536)
-
--- s is t, but for the stored current precedences: the first n of them are those with these numbers
-pub record Stored (t : Table) (currents : List ℕ) (n : ℕ) (s : Table) : Type 0 where
-  pub table-is : s ≡ with-current t (s .«current_priority») (s .«current_time»)
-  pub priority-size : length (s .«current_priority») ≡ 32
-  pub time-size : length (s .«current_time») ≡ 32
-  pub priorities : (th : Thread) → th < n → at (s .«current_priority») th ≡ at currents th / 65536
-  pub times : (th : Thread) → th < n → at (s .«current_time») th ≡ time-in (at currents th)
-
--- w is what the event of e makes of t, but for the stored current precedences
-pub record Carries-out (t : Table) (e : Record) (w : Work) : Type 0 where
-  pub tracked : Tracked (w .table) (w .waits) (w .current)
-  pub shape : Shape (w .table)
-  pub sound : Sound (settled (w .table))
-  pub answer-is : accepted (settled (w .table)) (w .count) ≡ applied t e

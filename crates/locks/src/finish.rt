@@ -1,17 +1,10 @@
-// The end of a call: the current precedences are stored, and the answer is made.
+// The end of an accepted event: the current precedences are stored.
 ghost use mathlib.Core.Path.{_≡_};
 ghost use Prim.Native.Nat.{ℕ, _/_, _<_};
+ghost use lib.ListN.{length};
 ghost use Rattle.table.specs.Table.{at};
-ghost use Rattle.table.specs.Sound.{Sound};
-ghost use Rattle.table.specs.Checked.{Shape};
-ghost use Rattle.locks.specs.Events.{settled};
-ghost use Rattle.locks.specs.Work.{time-in, Stored, Tracked};
-ghost use Rattle.locks.specs.Answers.{accepted};
-use crate::Answer;
-use crate::Done;
-use crate::work::Work;
+ghost use Rattle.locks.specs.Work.{time-in};
 use table::Table;
-use table::running::running;
 
 // The priority in a number.
 fn priority_in(n: u32) -> u8
@@ -32,43 +25,26 @@ fn time_in(n: u32) -> u16
     }
 }
 
-// Writes the current precedences back from their numbers.
-fn store(t: Table, current: &[u32; Table::THREADS]) -> Table
-    requires { ⌜ ((th : ℕ) → th < 32 → at (now current) th / 65536 < 256) ⌝ }
-    ensures { λ s. ⌜ Stored t (now (current .entry)) 32 s ⌝ }
+// Writes the priorities back from the numbers.
+pub fn store_priorities<'a>(to: &'a mut [u8; Table::THREADS], current: &'a [u32; Table::THREADS])
+    requires { ⌜ (length (now to) ≡ 32) × ((th : ℕ) → th < 32 → at (now current) th / 65536 < 256) ⌝ }
+    ensures { λ _. ⌜ (length (now (to .exit)) ≡ 32) × ((th : ℕ) → th < 32 → at (now (to .exit)) th ≡ at (now (current .entry)) th / 65536) ⌝ }
 {
-    let mut next = t;
     let mut i = 0;
     while i < Table::THREADS {
-        next.current_priority[i] = priority_in(current[i]);
-        next.current_time[i] = time_in(current[i]);
+        to[i] = priority_in(current[i]);
         i += 1;
     }
-    next
 }
 
-// An accepted event: number 0, the running thread of the table afterwards, the count, and that table.
-pub fn accept(w: Work) -> Done
-    requires { ⌜ Tracked (w .table) (w .waits) (w .current) × Shape (w .table) × Sound (settled (w .table)) ⌝ }
-    ensures { λ d. ⌜ d ≡ accepted (settled (w .table)) (w .count) ⌝ }
+// And the times.
+pub fn store_times<'a>(to: &'a mut [u16; Table::THREADS], current: &'a [u32; Table::THREADS])
+    requires { ⌜ length (now to) ≡ 32 ⌝ }
+    ensures { λ _. ⌜ (length (now (to .exit)) ≡ 32) × ((th : ℕ) → th < 32 → at (now (to .exit)) th ≡ time-in (at (now (current .entry)) th)) ⌝ }
 {
-    let answer = Answer {
-        number: 0,
-        running: running(&w.table.live, &w.waits, &w.current),
-        count: w.count,
-    };
-    let table = store(w.table, &w.current);
-    Done { answer, table }
-}
-
-// A refused one: its number, the running thread to report, no count, and the table given.
-pub fn refuse(t: Table, number: u8, running: u8) -> Done
-    ensures { λ d. ⌜ d ≡ record { answer = record { number = number; running = running; count = 0 }; table = t } ⌝ }
-{
-    let answer = Answer {
-        number,
-        running,
-        count: 0,
-    };
-    Done { answer, table: t }
+    let mut i = 0;
+    while i < Table::THREADS {
+        to[i] = time_in(current[i]);
+        i += 1;
+    }
 }

@@ -1,13 +1,14 @@
 // The calls: the by-value step and the three queries. See specs/ for what each answers.
 mod climb;
 mod finish;
+mod numbers;
 pub mod queries;
 mod refusal;
 mod release;
 mod request;
+mod requeue;
 mod slots;
 pub mod step;
-mod work;
 
 use table::Table;
 

@@ -1,20 +1,21 @@
 // V: the thread leaves the head of the resource's queue, and the heir follows.
 ghost use mathlib.Core.Path.{_≡_};
-ghost use mathlib.Core.Bool.{true};
 ghost use mathlib.Core.Option.{some};
 ghost use mathlib.Core.List.{[]};
-ghost use Prim.Native.Nat.{ℕ, _*_, _+_, _<_, _≤_};
-ghost use Rattle.protocol.specs.Sets.{distinct};
+ghost use mathlib.Core.Logic.{_⊎_};
+ghost use Prim.Native.Nat.{ℕ, _*_, _<_, _≤_};
+ghost use lib.ListN.{set, take, drop};
 ghost use Rattle.protocol.specs.Schedule;
-ghost use Rattle.table.specs.Table.{at, queues, holds, waits};
+ghost use Rattle.table.specs.declared.Table.{Table};
+ghost use Rattle.table.specs.Table.{queues};
 ghost use Rattle.table.specs.Parts.{entry};
-ghost use Rattle.table.specs.Checked.{Checked-right};
-ghost use Rattle.locks.specs.Events.{with-queue, heir};
 ghost use Rattle.locks.specs.Count.{release-count};
-ghost use Rattle.locks.specs.Work.{Works};
+ghost use Rattle.locks.specs.Changed.{passed-on, Has-queues};
+ghost use Rattle.locks.specs.Rows.{Row, rewritten};
+ghost use Rattle.locks.specs.Work.{Releases, Tracked};
 ghost use Rattle.locks.specs.Heir.{Heir-place};
 ghost use Rattle.locks.specs.Afresh.{Both-afresh};
-use crate::work::Work;
+use crate::numbers::Values;
 use table::Table;
 use table::law::afresh;
 use table::law::value;
@@ -46,38 +47,49 @@ fn heir_place<'a>(
 }
 
 // The entry at place p of the n entries of r goes to the head, and those behind it move up.
-fn hand_over(t: Table, r: usize, p: usize, n: usize) -> Table
-    requires { ⌜ (t .clock < 65535) × (r < 16) × (n ≤ 32) × (at (t .length) r ≡ n) × (1 ≤ p) × (p < n) × distinct (queues t r)
-        × ((i : ℕ) → n ≤ i → i < 32 → entry (t .queue) r i ≡ 0) ⌝ }
-    ensures { λ u. ⌜ u ≡ with-queue t r (Schedule.release (queues t r) (some (entry (t .queue) r p))) ⌝ }
+fn hand_over(queue: &mut [u8; Table::PLACES], r: usize, p: usize, n: usize)
+    requires { ⌜ Row (now queue) r n × (1 ≤ p) × (p < n) ⌝ }
+    ensures { λ _. ⌜ now (queue .exit) ≡ rewritten (now (queue .entry)) (r * 32) (Schedule.release (take n (drop (r * 32) (now (queue .entry)))) (some (entry (now (queue .entry)) r p))) ⌝ }
 {
     let start = r * Table::THREADS;
     let last = start + n - 1;
-    let mut next = t;
-    let heir = next.queue[start + p];
+    let heir = queue[start + p];
     let mut at = start + p;
     while at < last {
         let from = at + 1;
-        next.queue[at] = next.queue[from];
+        queue[at] = queue[from];
         at += 1;
     }
-    next.queue[last] = 0;
-    next.queue[start] = heir;
-    next.length[r] = (n - 1) as u8;
-    next.clock += 1;
-    next
+    queue[last] = 0;
+    queue[start] = heir;
 }
 
 // The head of r goes and nobody follows.
-fn vacate(t: Table, r: usize) -> Table
-    requires { ⌜ (t .clock < 65535) × (r < 16) × ((i : ℕ) → 1 ≤ i → i < 32 → entry (t .queue) r i ≡ 0) ⌝ }
-    ensures { λ u. ⌜ u ≡ with-queue t r [] ⌝ }
+fn vacate(queue: &mut [u8; Table::PLACES], r: usize)
+    requires { ⌜ r < 16 ⌝ }
+    ensures { λ _. ⌜ now (queue .exit) ≡ set (now (queue .entry)) (r * 32) 0 ⌝ }
 {
-    let mut next = t;
-    next.queue[r * Table::THREADS] = 0;
-    next.length[r] = 0;
-    next.clock += 1;
-    next
+    queue[r * Table::THREADS] = 0;
+}
+
+// The head of the n entries of r goes, and the heir follows if anybody waits.
+pub fn leave<'a>(
+    queue: &'a mut [u8; Table::PLACES],
+    own: &'a [u32; Table::THREADS],
+    r: usize,
+    n: usize,
+)
+    requires { ⌜ Row (now queue) r n ⌝ }
+    ensures { λ _. ⌜ ((n < 2) × (now (queue .exit) ≡ rewritten (now (queue .entry)) (r * 32) []))
+        ⊎ ((p : ℕ) × Heir-place (now (queue .entry)) (now (own .entry)) r n p
+        × (now (queue .exit) ≡ rewritten (now (queue .entry)) (r * 32) (Schedule.release (take n (drop (r * 32) (now (queue .entry)))) (some (entry (now (queue .entry)) r p))))) ⌝ }
+{
+    if n < 2 {
+        vacate(queue, r);
+    } else {
+        let p = heir_place(queue, own, r, n);
+        hand_over(queue, r, p, n);
+    }
 }
 
 // The releaser and the heir, worked out afresh one after the other.
@@ -102,35 +114,32 @@ fn both_afresh<'a>(
 
 // The thread waits for nothing, so whoever else holds a resource keeps its precedence: only the two who hold this one, before and after,
 // are worked out.
-pub fn release(
-    t: Table,
+pub fn released<'a>(
+    queue: &'a [u8; Table::PLACES],
+    length: &'a [u8; Table::RESOURCES],
+    own: &'a [u32; Table::THREADS],
     waits: [u8; Table::THREADS],
-    own: [u32; Table::THREADS],
     current: [u32; Table::THREADS],
     thread: u8,
     resource: u8,
-) -> Work
-    requires { ⌜ Checked-right t true waits own current × (t .clock < 65535) × (resource < 16) × holds t thread resource × ((r : ℕ) → ¬ Rattle.table.specs.Table.waits t thread r) ⌝ }
-    ensures { λ w. ⌜ Works (with-queue t resource (Schedule.release (queues t resource) (heir t (queues t resource)))) (release-count (queues t resource)) w ⌝ }
+) -> Values
+    requires { ⌜ ((t : Table) × Releases t waits (now own) current thread resource × Has-queues (passed-on t resource) (now queue) (now length)) ⌝ }
+    ensures { λ w. ⌜ ((t : Table) → Releases t waits (now (own .entry)) current thread resource → Has-queues (passed-on t resource) (now (queue .entry)) (now (length .entry)) →
+        Tracked (passed-on t resource) (w .waits) (w .current) × (w .count ≡ release-count (queues t resource))) ⌝ }
 {
-    let r = resource as usize;
-    let n = wide(t.length[r]);
-    if n < 2 {
-        return Work {
-            table: vacate(t, r),
+    let r = wide(resource);
+    if length[r] == 0 {
+        return Values {
             waits,
             current,
             count: 0,
         };
     }
-    let p = heir_place(&t.queue, &own, r, n);
-    let heir = wide(t.queue[r * Table::THREADS + p]);
-    let next = hand_over(t, r, p, n);
+    let heir = wide(queue[r * Table::THREADS]);
     let mut waiting = waits;
     waiting[heir] = Table::NOTHING;
-    let values = both_afresh(&next.queue, &next.length, &own, current, wide(thread), heir);
-    Work {
-        table: next,
+    let values = both_afresh(queue, length, own, current, wide(thread), heir);
+    Values {
         waits: waiting,
         current: values,
         count: 2,

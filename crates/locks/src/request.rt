@@ -1,55 +1,43 @@
 // P: a thread joins the end of a resource's queue.
 ghost use mathlib.Core.Path.{_≡_};
-ghost use mathlib.Core.Bool.{true};
-ghost use mathlib.Core.List.{[], _∷_, _++_};
-ghost use Prim.Native.Nat.{ℕ, _<_};
-ghost use Rattle.protocol.specs.Sets.{_∈_};
-ghost use Rattle.protocol.specs.Graph.{RAG, T, C, _⁺};
-ghost use Rattle.table.specs.Table.{at, live, queues, waits as waits-for-it};
-ghost use Rattle.table.specs.Sound.{Sound};
-ghost use Rattle.table.specs.Checked.{Shape, Checked-right};
-ghost use Rattle.locks.specs.Events.{with-queue};
+ghost use Prim.Native.Nat.{_+_, _*_, _<_};
+ghost use lib.ListN.{set};
+ghost use Rattle.table.specs.declared.Table.{Table};
+ghost use Rattle.table.specs.Table.{queues};
 ghost use Rattle.locks.specs.Count.{request-count};
-ghost use Rattle.locks.specs.Work.{Works};
+ghost use Rattle.locks.specs.Changed.{joined, Has-queues};
+ghost use Rattle.locks.specs.Work.{Asks, Tracked};
 use crate::climb::climb;
-use crate::work::Work;
+use crate::numbers::Values;
 use table::Table;
 use table::queues::wide;
 
-// The thread's entry behind the last one.
-fn join(t: Table, thread: u8, resource: u8) -> Table
-    requires { ⌜ Sound t × Shape t × (t .clock < 65535) × (resource < 16) × (at (t .length) resource < 32) ⌝ }
-    ensures { λ r. ⌜ r ≡ with-queue t resource (queues t resource ++ (thread ∷ [])) ⌝ }
+// The thread's entry behind the last of the n entries of r.
+pub fn join(queue: &mut [u8; Table::PLACES], r: usize, n: usize, thread: u8)
+    requires { ⌜ (r < 16) × (n < 32) ⌝ }
+    ensures { λ _. ⌜ now (queue .exit) ≡ set (now (queue .entry)) (r * 32 + n) thread ⌝ }
 {
-    let r = wide(resource);
-    let n = t.length[r];
-    let mut next = t;
-    next.clock += 1;
-    next.queue[r * Table::THREADS + wide(n)] = thread;
-    next.length[r] = n + 1;
-    next
+    queue[r * Table::THREADS + n] = thread;
 }
 
-// With the queue empty, the thread holds the resource and no number changes. Otherwise it waits, and the walk goes up from the
+// With the thread alone in the queue, it holds the resource and no number changes. Otherwise it waits, and the walk goes up from the
 // holder.
-pub fn request(
-    t: Table,
+pub fn requested<'a>(
+    queue: &'a [u8; Table::PLACES],
+    length: &'a [u8; Table::RESOURCES],
+    own: &'a [u32; Table::THREADS],
     waits: [u8; Table::THREADS],
-    own: [u32; Table::THREADS],
     current: [u32; Table::THREADS],
     thread: u8,
     resource: u8,
-) -> Work
-    requires { ⌜ Checked-right t true waits own current × (t .clock < 65535) × (resource < 16) × (thread ∈ live t) × ((r : ℕ) → ¬ waits-for-it t thread r) × (¬ (RAG (queues t) ⁺) (C resource) (T thread)) ⌝ }
-    ensures { λ w. ⌜ Works (with-queue t resource (queues t resource ++ (thread ∷ []))) (request-count t (with-queue t resource (queues t resource ++ (thread ∷ []))) resource (queues t resource)) w ⌝ }
+) -> Values
+    requires { ⌜ ((t : Table) × Asks t waits (now own) current thread resource × Has-queues (joined t thread resource) (now queue) (now length)) ⌝ }
+    ensures { λ w. ⌜ ((t : Table) → Asks t waits (now (own .entry)) current thread resource → Has-queues (joined t thread resource) (now (queue .entry)) (now (length .entry)) →
+        Tracked (joined t thread resource) (w .waits) (w .current) × (w .count ≡ request-count t (joined t thread resource) resource (queues t resource))) ⌝ }
 {
     let r = wide(resource);
-    let taken = t.length[r];
-    let holder = t.queue[r * Table::THREADS];
-    let next = join(t, thread, resource);
-    if taken == 0 {
-        return Work {
-            table: next,
+    if length[r] == 1 {
+        return Values {
             waits,
             current,
             count: 0,
@@ -57,10 +45,16 @@ pub fn request(
     }
     let mut waiting = waits;
     waiting[wide(thread)] = resource;
-    let walked = climb(&next.queue, &next.length, &waiting, &own, current, holder);
+    let walked = climb(
+        queue,
+        length,
+        &waiting,
+        own,
+        current,
+        queue[r * Table::THREADS],
+    );
     let values = walked.current;
-    Work {
-        table: next,
+    Values {
         waits: waiting,
         current: values,
         count: walked.count,

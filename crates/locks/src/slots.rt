@@ -1,75 +1,93 @@
-// Create, Set and Exit: one slot changes.
+// Create, Set and Exit: one slot is made anew.
 ghost use mathlib.Core.Path.{_≡_};
-ghost use mathlib.Core.Bool.{true};
+ghost use mathlib.Core.List.{List};
 ghost use Prim.Native.Nat.{ℕ, _<_};
-ghost use Rattle.protocol.specs.Sets.{_∈_, set};
-ghost use Rattle.table.specs.Table.{queues, waits as waits-for-it};
-ghost use Rattle.table.specs.Checked.{Checked-right};
+ghost use Rattle.table.specs.declared.Table.{Table};
 ghost use Rattle.locks.specs.Events.{with-slot};
-ghost use Rattle.locks.specs.Work.{Works};
-use crate::work::Work;
+ghost use Rattle.locks.specs.Changed.{fresh-slot, dead-slot, slot-after};
+ghost use Rattle.locks.specs.Work.{Sets, Exits, Tracked};
+use crate::Record;
+use crate::numbers::Values;
 use table::Table;
 use table::law::afresh;
 use table::numbers::number;
 
-// Create and Set: the slot is live with the new priority, set now. A thread that waits for nothing is worked out alone.
-pub fn set_slot(
-    t: Table,
+// What the table has of one thread, but for its current precedence. A slot is made here only.
+pub struct Slot {
+    pub live: u8,
+    pub priority: u8,
+    pub time: u16,
+}
+
+// Live, with this priority, set now.
+fn fresh(priority: u8, now: u16) -> Slot
+    ensures { λ s. ⌜ s ≡ fresh-slot priority now ⌝ }
+{
+    Slot {
+        live: 1,
+        priority,
+        time: now,
+    }
+}
+
+// Zero everywhere.
+fn dead() -> Slot
+    ensures { λ s. ⌜ s ≡ dead-slot ⌝ }
+{
+    Slot {
+        live: 0,
+        priority: 0,
+        time: 0,
+    }
+}
+
+// Exit leaves a dead slot, Create and Set a fresh one.
+pub fn slot_of(e: Record, now: u16) -> Slot
+    ensures { λ s. ⌜ s ≡ slot-after e now ⌝ }
+{
+    if e.kind == Record::EXIT {
+        return dead();
+    }
+    fresh(e.argument, now)
+}
+
+// Create and Set: a thread that waits for nothing is worked out alone.
+pub fn slot_set<'a>(
+    queue: &'a [u8; Table::PLACES],
+    length: &'a [u8; Table::RESOURCES],
     waits: [u8; Table::THREADS],
-    own: [u32; Table::THREADS],
     current: [u32; Table::THREADS],
     thread: u8,
     priority: u8,
-) -> Work
-    requires { ⌜ Checked-right t true waits own current × (t .clock < 65535) × (thread < 32) × ((r : ℕ) → ¬ waits-for-it t thread r) ⌝ }
-    ensures { λ w. ⌜ Works (with-slot t thread 1 priority (t .clock)) 1 w ⌝ }
+    time: u16,
+) -> Values
+    requires { ⌜ thread < 32 ⌝ }
+    ensures { λ w. ⌜ ((t : Table) (owns : List ℕ) → Sets t waits owns current thread → time ≡ t .clock → now (queue .entry) ≡ t .queue → now (length .entry) ≡ t .length → Tracked (with-slot t thread 1 priority time) (w .waits) (w .current)) × (w .count ≡ 1) ⌝ }
 {
-    let i = thread as usize;
-    let now = t.clock;
-    let mut next = t;
-    next.clock = now + 1;
-    next.live[i] = 1;
-    next.priority[i] = priority;
-    next.time[i] = now;
-    let mut values = current;
-    values[i] = afresh(
-        &next.queue,
-        &next.length,
-        number(priority, now),
-        &current,
-        thread,
-    );
-    Work {
-        table: next,
+    let mut all = current;
+    let v = afresh(queue, length, number(priority, time), &all, thread);
+    all[thread as usize] = v;
+    Values {
         waits,
-        current: values,
+        current: all,
         count: 1,
     }
 }
 
-// Exit: the slot becomes zero.
-pub fn clear_slot(
-    t: Table,
+// Exit: the thread has no number any more.
+pub fn slot_cleared(
     waits: [u8; Table::THREADS],
-    own: [u32; Table::THREADS],
     current: [u32; Table::THREADS],
     thread: u8,
-) -> Work
-    requires { ⌜ Checked-right t true waits own current × (t .clock < 65535) × (thread < 32) × ((r : ℕ) → ¬ (thread ∈ set (queues t r))) ⌝ }
-    ensures { λ w. ⌜ Works (with-slot t thread 0 0 0) 0 w ⌝ }
+) -> Values
+    requires { ⌜ thread < 32 ⌝ }
+    ensures { λ w. ⌜ ((t : Table) (owns : List ℕ) → Exits t waits owns current thread → Tracked (with-slot t thread 0 0 0) (w .waits) (w .current)) × (w .count ≡ 0) ⌝ }
 {
-    let i = thread as usize;
-    let mut next = t;
-    next.clock += 1;
-    next.live[i] = 0;
-    next.priority[i] = 0;
-    next.time[i] = 0;
-    let mut values = current;
-    values[i] = 0;
-    Work {
-        table: next,
+    let mut all = current;
+    all[thread as usize] = 0;
+    Values {
         waits,
-        current: values,
+        current: all,
         count: 0,
     }
 }

@@ -1,51 +1,23 @@
 // The step: any table and any record, by value.
 ghost use mathlib.Core.Path.{_≡_};
-ghost use mathlib.Core.Bool.{true};
-ghost use Rattle.table.specs.Checked.{Checked-right};
-ghost use Rattle.locks.specs.Refusals.{refusals, lowest};
 ghost use Rattle.locks.specs.Answers.{answerOf};
-ghost use Rattle.locks.specs.Work.{Carries-out};
+use crate::Answer;
 use crate::Done;
 use crate::Record;
-use crate::finish::accept;
-use crate::finish::refuse;
+use crate::finish::store_priorities;
+use crate::finish::store_times;
+use crate::numbers::numbers_after;
 use crate::refusal::refusal;
-use crate::release::release;
-use crate::request::request;
-use crate::slots::clear_slot;
-use crate::slots::set_slot;
-use crate::work::Work;
+use crate::requeue::requeue;
+use crate::slots::slot_of;
 use table::Table;
 use table::check::check;
+use table::queues::wide;
 use table::running::running;
 
-// The event of a record that is not refused, by its kind.
-fn carry_out(
-    t: Table,
-    waits: [u8; Table::THREADS],
-    own: [u32; Table::THREADS],
-    current: [u32; Table::THREADS],
-    e: Record,
-) -> Work
-    requires { ⌜ Checked-right t true waits own current × (lowest (refusals t e) ≡ 0) ⌝ }
-    ensures { λ w. ⌜ Carries-out t e w ⌝ }
-{
-    let kind = e.kind;
-    let thread = e.thread;
-    let argument = e.argument;
-    if (kind == Record::CREATE) | (kind == Record::SET) {
-        return set_slot(t, waits, own, current, thread, argument);
-    }
-    if kind == Record::EXIT {
-        return clear_slot(t, waits, own, current, thread);
-    }
-    if kind == Record::P {
-        return request(t, waits, own, current, thread, argument);
-    }
-    release(t, waits, own, current, thread, argument)
-}
-
-pub fn step(t: Table, e: Record) -> Done
+// The table given is changed where it stands, and the result is made once, at the end: it is copied into the call and out of it, and
+// between no two functions.
+pub fn step(mut t: Table, e: Record) -> Done
     ensures { λ d. ⌜ d ≡ answerOf t e ⌝ }
 {
     let c = check(
@@ -58,16 +30,40 @@ pub fn step(t: Table, e: Record) -> Done
         &t.queue,
         &t.length,
     );
-    if !c.sound {
-        return refuse(t, 1, Table::NOBODY);
+    let mut answer = reply(1, Table::NOBODY, 0);
+    if c.sound {
+        let runs = running(&t.live, &c.waits, &c.current);
+        let number = refusal(t.clock, &t.live, &t.queue, &t.length, &c.waits, runs, e);
+        answer = reply(number, runs, 0);
     }
-    let waits = c.waits;
-    let own = c.own;
-    let current = c.current;
-    let runs = running(&t.live, &waits, &current);
-    let number = refusal(t.clock, &t.live, &t.queue, &t.length, &waits, runs, e);
-    if number != 0 {
-        return refuse(t, number, runs);
+    if answer.number == 0 {
+        if e.kind < Record::P {
+            let s = slot_of(e, t.clock);
+            let i = wide(e.thread);
+            t.live[i] = s.live;
+            t.priority[i] = s.priority;
+            t.time[i] = s.time;
+        } else {
+            let r = wide(e.argument);
+            let n = t.length[r];
+            t.length[r] = requeue(&mut t.queue, &c.own, n, e);
+        }
+        let w = numbers_after(&t.queue, &t.length, &c.own, c.waits, c.current, t.clock, e);
+        t.clock += 1;
+        answer = reply(0, running(&t.live, &w.waits, &w.current), w.count);
+        store_priorities(&mut t.current_priority, &w.current);
+        store_times(&mut t.current_time, &w.current);
     }
-    accept(carry_out(t, waits, own, current, e))
+    Done { answer, table: t }
+}
+
+// An answer of these numbers.
+fn reply(number: u8, running: u8, count: u8) -> Answer
+    ensures { λ a. ⌜ a ≡ record { number = number; running = running; count = count } ⌝ }
+{
+    Answer {
+        number,
+        running,
+        count,
+    }
 }
