@@ -77,7 +77,8 @@ pub fn law_values<'a>(
     best
 }
 
-// One thread worked out afresh from its direct waiters.
+// One thread worked out afresh from its direct waiters. Who stands first is tested before the length, since most resources fail at
+// that; where the length is 0 or 1 nobody is compared.
 pub fn afresh<'a>(
     queue: &'a [u8; Table::PLACES],
     length: &'a [u8; Table::RESOURCES],
@@ -90,11 +91,8 @@ pub fn afresh<'a>(
     let mut best = own;
     let mut r = 0;
     while r < Table::RESOURCES {
-        let n = entries(length[r]);
-        if 1 < n {
-            if queue[r * Table::THREADS] == t {
-                best = highest_waiter(queue, current, r, n, best);
-            }
+        if queue[r * Table::THREADS] == t {
+            best = highest_waiter(queue, current, r, entries(length[r]), best);
         }
         r += 1;
     }

@@ -22,17 +22,17 @@ abbrev μ-loop : tie.MeasureT-loop
 loop-holds : tie.Need-loop-holds Inv-loop μ-loop
 loop-holds c = (omega arith, compared-none (c .args .queue .now) (c .args .length .now) (c .args .current .now) (c .args .own) (c .args .t))
 
+mul-if1 : tie.Need-mul-if1 Inv-loop μ-loop
+mul-if1 c = omega arith
+
+element-copy-out-if1 : tie.Need-element-copy-out-if1 Inv-loop μ-loop
+element-copy-out-if1 c = omega arith
+
 element-copy-out-entries : tie.Need-element-copy-out-entries Inv-loop μ-loop
 element-copy-out-entries c = search needs
 
 entries-requires : tie.Need-entries-requires Inv-loop μ-loop
 entries-requires c κs = search needs
-
-mul-if2 : tie.Need-mul-if2 Inv-loop μ-loop
-mul-if2 c = omega arith
-
-element-copy-out-if2 : tie.Need-element-copy-out-if2 Inv-loop μ-loop
-element-copy-out-if2 c = omega arith
 
 highest-waiter-requires : tie.Need-highest-waiter-requires Inv-loop μ-loop
 highest-waiter-requires c κs = omega arith
@@ -45,13 +45,11 @@ loop-less c = omega arith
 
 loop-again : tie.Need-loop-again Inv-loop μ-loop
 loop-again c =
-    let h = c .before .before .before .before in
-    let a = h .before .args in
-    let r = h .loop .r in (
+    let h = c .before .before .before in
+    let a = h .before .args in (
       omega arith,
-      let n = c .before .entries .ensures .0 in
-          compared-next (a .queue .now) (a .length .now) (a .current .now) (a .own) (a .t) r
-          (⊎-elim (λ w. inl (w .2 .taken, rw (w .4) (rw n at (w .3 .ensures)))) (⊎-elim (λ w. inr ((λ e. absurd (w .2 .left e)), w .3)) (λ w. inr ((λ _. omega (arith, w .0 .left, n)), w .1))) (c .if1 .came))
+      compared-next (a .queue .now) (a .length .now) (a .current .now) (a .own) (a .t) (h .loop .r)
+          (⊎-elim (λ w. inl (w .0 .taken, rw (w .4) (rw (w .2 .ensures .0) at (w .3 .ensures)))) (λ w. inr ((λ e. absurd (w .0 .left e)), w .1)) (c .if1 .came))
           (h .loop .inv .1),
     )
 
@@ -67,10 +65,10 @@ afresh-spec =
     Inv-loop
     μ-loop
     loop-holds
+    mul-if1
+    element-copy-out-if1
     element-copy-out-entries
     entries-requires
-    mul-if2
-    element-copy-out-if2
     highest-waiter-requires
     add-r
     loop-less
