@@ -65,11 +65,10 @@ pub fn law_values<'a>(
     let mut best = own;
     let mut r = 0;
     while r < Table::RESOURCES {
-        let n = entries(length[r]);
-        if 1 < n {
+        if 1 < length[r] {
             let h = wide(queue[r * Table::THREADS]);
             if h < Table::THREADS {
-                best[h] = highest_waiter(queue, current, r, n, best[h]);
+                best[h] = highest_waiter(queue, current, r, entries(length[r]), best[h]);
             }
         }
         r += 1;

@@ -7,6 +7,7 @@ use mathlib.Core.Logic.{inl, inr, ⊎-elim, by-cases}
 use native.Mathlib.Decide.{ℕ-discrete}
 use native.Mathlib.Omega.{arith}
 use borrow.Author.Needs.{needs}
+use borrow.Author.Tests.{le-leb}
 use lib.ListN
 use lib.ListN.{set, length-set}
 use lib.Seq.{getD-set-same, getD-set-other}
@@ -16,6 +17,10 @@ use Rattle.table.specs.Parts.{entries-of, Compared, Waiters-numbers}
 use Rattle.table.proofs.Maxima.{compared-none, compared-next}
 use Rattle.table.proofs.law.law_values.Statement.{statement}
 use Rattle.table.proofs.law.law_values.Tie as tie
+
+-- a length of at most 1 has as many entries
+few : (n : ℕ) → n ≤ 1 → entries-of n ≤ 1
+few n h = rw (le-leb n 32 (omega arith)) h
 
 module _ (queue length current own : List ℕ) where
   -- `best` is right for the first r resources
@@ -43,11 +48,8 @@ abbrev μ-loop : tie.MeasureT-loop
 loop-holds : tie.Need-loop-holds Inv-loop μ-loop
 loop-holds c = (omega arith, search needs, λ t l. compared-none (c .args .queue .now) (c .args .length .now) (c .args .current .now) (at (c .args .own) t) t)
 
-element-copy-out-entries : tie.Need-element-copy-out-entries Inv-loop μ-loop
-element-copy-out-entries c = search needs
-
-entries-requires : tie.Need-entries-requires Inv-loop μ-loop
-entries-requires c κs = search needs
+element-copy-out-if1 : tie.Need-element-copy-out-if1 Inv-loop μ-loop
+element-copy-out-if1 c = search needs
 
 mul-wide : tie.Need-mul-wide Inv-loop μ-loop
 mul-wide c = omega arith
@@ -57,6 +59,12 @@ element-copy-out-wide c = omega arith
 
 wide-requires : tie.Need-wide-requires Inv-loop μ-loop
 wide-requires c κs = search needs
+
+element-copy-out-entries : tie.Need-element-copy-out-entries Inv-loop μ-loop
+element-copy-out-entries c = search needs
+
+entries-requires : tie.Need-entries-requires Inv-loop μ-loop
+entries-requires c κs = search needs
 
 mul-highest-waiter : tie.Need-mul-highest-waiter Inv-loop μ-loop
 mul-highest-waiter c = omega arith
@@ -81,15 +89,14 @@ loop-less c = omega arith
 
 loop-again : tie.Need-loop-again Inv-loop μ-loop
 loop-again c =
-    let h = c .before .before .before .before in
+    let h = c .before .before .before in
     let a = h .before .args in
     let b = h .loop in
-    let n = c .before .entries .ensures .0 in
     let raise = raised (a .queue .now) (a .length .now) (a .current .now) (a .own) (b .best) (b .r) in
     let pass = passed (a .queue .now) (a .length .now) (a .current .now) (a .own) (b .best) (b .r) in
-    ⊎-elim (λ w. (omega arith, rw (w .5, length-set) (b .inv .1), rw (w .5) (raise _ _ (b .inv .1) (w .3 .taken) (w .2 .ensures .0) (rw n at (w .4 .ensures)) (b .inv .2))))
+    ⊎-elim (λ w. (omega arith, rw (w .7, length-set) (b .inv .1), rw (w .7) (raise _ _ (b .inv .1) (w .3 .taken) (w .2 .ensures .0) (rw (w .5 .ensures .0) at (w .6 .ensures)) (b .inv .2))))
     (⊎-elim (λ w. (omega arith, rw (w .4) (b .inv .1), rw (w .4) (pass (λ t l e. absurd (omega (arith, w .3 .left, w .2 .ensures .0))) (b .inv .2))))
-    (λ w. (omega arith, rw (w .1) (b .inv .1), rw (w .1) (pass (λ t l e. omega (arith, w .0 .left, n)) (b .inv .2)))))
+    (λ w. (omega arith, rw (w .1) (b .inv .1), rw (w .1) (pass (λ t l e. few (at (a .length .now) (b .r)) (omega (arith, w .0 .left))) (b .inv .2)))))
     (c .if1 .came)
 
 returns : tie.Need-returns Inv-loop μ-loop
@@ -104,11 +111,12 @@ law-values-spec =
     Inv-loop
     μ-loop
     loop-holds
-    element-copy-out-entries
-    entries-requires
+    element-copy-out-if1
     mul-wide
     element-copy-out-wide
     wide-requires
+    element-copy-out-entries
+    entries-requires
     mul-highest-waiter
     array-read-highest-waiter
     highest-waiter-requires
