@@ -7,7 +7,7 @@ use Rattle.table.specs.Table.{at, empty}
 use Rattle.table.specs.Compute.{all-below, each, member, first-or-32, differ, find-below, is-live, holder, is-waiting, waits-for, blocker, depends, is-higher, highest-behind, current, is-ready, leader, runner, ends, same, dead-zero, spare-zero, time-right, queue-right, waits-once, current-right, is-sound}
 use Rattle.locks.specs.Events.{tabulate, settled, with-slot, with-queue, highest-own, heir, created, exited, set-anew, requested, released}
 use Rattle.locks.specs.Count.{walk, request-count, release-count}
-use Rattle.locks.specs.Refusals.{malformed, leads, holds-any, refusals, lowest}
+use Rattle.locks.specs.Refusals.{malformed, leads, holds-any, unsound, refusals, lowest}
 use Rattle.locks.specs.Answers.{accepted, refused, applied, answerOf}
 
 -- kind, thread, argument, fourth byte
@@ -103,5 +103,5 @@ marked =
 
 -- each list of records gives its outcome
 pub as-marked : map (λ c. outcome empty (c .input)) marked ≡ map (λ c. c .wanted) marked
-unfolding all-below each member first-or-32 differ find-below is-live holder is-waiting waits-for blocker depends is-higher highest-behind current is-ready leader runner ends same dead-zero spare-zero time-right queue-right waits-once current-right is-sound tabulate settled with-slot with-queue highest-own heir created exited set-anew requested released walk request-count release-count malformed leads holds-any refusals lowest accepted refused applied answerOf
+unfolding all-below each member first-or-32 differ find-below is-live holder is-waiting waits-for blocker depends is-higher highest-behind current is-ready leader runner ends same dead-zero spare-zero time-right queue-right waits-once current-right is-sound tabulate settled with-slot with-queue highest-own heir created exited set-anew requested released walk request-count release-count malformed leads holds-any unsound refusals lowest accepted refused applied answerOf
 as-marked = refl

@@ -20,8 +20,8 @@ use Rattle.table.proofs.Decided.{tells-sound}
 use Rattle.table.proofs.Reflect.{tells-not}
 use Rattle.table.proofs.Computed.{tells-live}
 use Rattle.table.proofs.Rows.{live-low}
-use Rattle.locks.specs.Refusals.{lowest}
-use Rattle.locks.specs.Queries.{unsound, running-refusals, running-answer, thread-refusals, thread-refused, thread-told as thread-table, thread-answer, resource-refusals, resource-refused, resource-told as resource-table, resource-answer}
+use Rattle.locks.specs.Refusals.{unsound, lowest}
+use Rattle.locks.specs.Queries.{running-refusals, running-answer, thread-refusals, thread-refused, thread-told as thread-table, thread-answer, resource-refusals, resource-refused, resource-told as resource-table, resource-answer}
 use Rattle.locks.proofs.OfSound.{runs, waited, current-stored, waiters-are, queue-length}
 use Rattle.locks.proofs.StaysSound.{Right}
 use Rattle.demands.specs.Told.{Running-told, Names-waited, Thread-told, Names-holder, Resource-told}

@@ -9,13 +9,13 @@ use Rattle.table.specs.Sound.{Sound}
 use Rattle.table.specs.Checked.{Shape}
 use Rattle.table.specs.Compute.{is-sound, runner}
 use Rattle.locks.specs.declared.Record.{Record}
-use Rattle.locks.specs.Refusals.{refusals, lowest}
+use Rattle.locks.specs.Refusals.{unsound, refusals, lowest}
 use Rattle.locks.specs.Answers.{refused, applied, answerOf}
 use Rattle.locks.proofs.Exactly.{exactly, given-1}
 
 module _ (t : Table) (e : Record) where
   pub not-sound : is-sound t ≡ false → answerOf t e ≡ record { answer = record { number = 1; running = 32; count = 0 }; table = t }
-  unfolding answerOf refused refusals lowest
+  unfolding answerOf refused unsound refusals lowest
   not-sound s = rw s
 
   -- a refused record: its number, and the very table

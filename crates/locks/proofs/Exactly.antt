@@ -20,7 +20,7 @@ use Rattle.table.proofs.Reflect.{Tells, tells-eq, tells-lt, tells-le, tells-bot
 use Rattle.table.proofs.Computed.{tells-live}
 use Rattle.table.proofs.Decided.{tells-sound}
 use Rattle.locks.specs.declared.Record.{Record}
-use Rattle.locks.specs.Refusals.{Refusal, refusals, lowest}
+use Rattle.locks.specs.Refusals.{Refusal, unsound, refusals, lowest}
 use Rattle.locks.specs.Applies.{Applies, not-sound, no-kind, no-thread, no-resource, exit-argument, fourth-byte, clock-ended, live-already, not-live, not-running, chained, not-held, holding, Given}
 use Rattle.locks.proofs.Values.{Good, resource-low}
 use Rattle.locks.proofs.Bare.{sound-bare}
@@ -140,7 +140,7 @@ module _ (t : Table) (e : Record) where
 
     -- the tests from 8 on, of a sound table and a thread that there is
     tests-from-8 : Tested (Applies t e) (drop 7 (refusals t e))
-    unfolding refusals
+    unfolding unsound refusals
     tests-from-8 = (
       retell (tells-both is-other (tells-both (tells-live t (e .thread)) (tells-not runs-as))) (λ w. not-running (w .0) (w .1 .0) (w .1 .1)) says-8,
       λ _. (
@@ -157,7 +157,7 @@ module _ (t : Table) (e : Record) where
 
   -- every test of the refusals tells whether its number applies
   tests : Shape t → Tested (Applies t e) (refusals t e)
-  unfolding refusals
+  unfolding unsound refusals
   tests s = (
     retell (tells-not (tells-sound t s)) not-sound says-1,
     λ n1. (
@@ -202,7 +202,7 @@ module _ (t : Table) (e : Record) where
 
   -- the number is the one that document 01 gives
   pub exactly : Shape t → Given t e (lowest (refusals t e))
-  unfolding refusals
+  unfolding unsound refusals
   exactly s = ⊎-elim
       (λ w. inl (w .0, λ m a. let k = from-1-to-11 m a in w .1 m (k .0) (omega (arith, k .1)) a))
       (λ w. inr (w .1, λ m l a. w .2 m (from-1-to-11 m a .0) l a))

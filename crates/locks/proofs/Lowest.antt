@@ -12,7 +12,7 @@ use Rattle.table.specs.Table.{at}
 use Rattle.table.specs.Compute.{is-live, runner, is-sound}
 use Rattle.table.proofs.Decided.{tells-sound}
 use Rattle.locks.specs.declared.Record.{Record}
-use Rattle.locks.specs.Refusals.{malformed, refusals, lowest}
+use Rattle.locks.specs.Refusals.{malformed, unsound, refusals, lowest}
 use Rattle.locks.specs.Refusing.{Lent, record-number, queues-number}
 
 -- the refusals by the record, by its three tests
@@ -49,7 +49,7 @@ module _ (t : Table) (e : Record) where
 
   -- on a sound table a refusal by the record comes first
   record-first : is-sound t ≡ true → lowest (refusals t e) ≡ cond (eqb (record-number e) 0) rest (record-number e)
-  unfolding lowest refusals record-number queues-number from-5 rest
+  unfolding lowest unsound refusals record-number queues-number from-5 rest
   record-first s = rw (s, past-7 (eqb (e .kind) 1) (is-live t (e .thread)) (eqb (runner t) (e .thread)) (queues-number t e)) (go (not (leb 1 (e .kind) && leb (e .kind) 5)) (ltb 31 (e .thread)) (malformed e))
     where
       go : (a b m : Bool) → cond a 2 (cond b 3 (cond m 4 rest)) ≡ cond (eqb (by-tests a b m) 0) rest (by-tests a b m)

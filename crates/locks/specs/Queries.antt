@@ -7,15 +7,11 @@ use lib.ListN.{length}
 use Rattle.protocol.specs.Events.{Thread, Resource}
 use Rattle.table.specs.declared.Table.{Table}
 use Rattle.table.specs.Table.{own, queues}
-use Rattle.table.specs.Compute.{is-sound, is-live, runner, current, waits-for, holder}
+use Rattle.table.specs.Compute.{is-live, runner, current, waits-for, holder}
 use Rattle.locks.specs.declared.queries.RunningAnswer.{RunningAnswer}
 use Rattle.locks.specs.declared.queries.ThreadAnswer.{ThreadAnswer}
 use Rattle.locks.specs.declared.queries.ResourceAnswer.{ResourceAnswer}
-use Rattle.locks.specs.Refusals.{Refusal, lowest}
-
--- refusal 1, which all queries share: the table isn't sound
-unfoldable pub unsound : Table → Refusal
-unsound t = record { number = 1; applies = not (is-sound t) }
+use Rattle.locks.specs.Refusals.{Refusal, unsound, lowest}
 
 -- Running: refused with 1,
 unfoldable pub running-refusals : Table → List Refusal

@@ -25,10 +25,14 @@ leads t cs th = eqb (holder t cs) th || depends 32 t (holder t cs) th
 unfoldable pub holds-any : Table → Thread → Bool
 holds-any t th = not (all-below 16 (λ cs. not (eqb (holder t cs) th)))
 
+-- refusal 1, which every call shares: the table isn't sound
+unfoldable pub unsound : Table → Refusal
+unsound t = record { number = 1; applies = not (is-sound t) }
+
 -- the refusals, in their order
 unfoldable pub refusals : Table → Record → List Refusal
 refusals t e =
-    record { number = 1; applies = not (is-sound t) }
+    unsound t
     ∷ (record { number = 2; applies = not (leb 1 (e .kind) && leb (e .kind) 5) }
     ∷ (record { number = 3; applies = ltb 31 (e .thread) }
     ∷ (record { number = 4; applies = malformed e }

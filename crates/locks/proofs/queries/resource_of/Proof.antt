@@ -5,8 +5,8 @@ use mathlib.Core.Bool.{true}
 use native.Mathlib.Omega.{arith}
 use borrow.Author.Needs.{needs}
 use borrow.Author.Tests.{not-false, lt-ltb, le-ltb}
-use Rattle.locks.specs.Refusals.{lowest}
-use Rattle.locks.specs.Queries.{unsound, resource-refusals, resource-told, resource-answer}
+use Rattle.locks.specs.Refusals.{unsound, lowest}
+use Rattle.locks.specs.Queries.{resource-refusals, resource-told, resource-answer}
 use Rattle.locks.proofs.OfSound.{waiters-are, first-holds}
 use Rattle.locks.proofs.Bridge.{found-unsound, found-sound}
 use Rattle.locks.proofs.queries.resource_of.Statement.{statement}

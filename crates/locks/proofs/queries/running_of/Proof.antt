@@ -2,8 +2,8 @@
 use mathlib.Core.Path.{_∙_}
 use borrow.Author.Needs.{needs}
 use borrow.Author.Tests.{not-false}
-use Rattle.locks.specs.Refusals.{lowest}
-use Rattle.locks.specs.Queries.{unsound, running-refusals, running-answer}
+use Rattle.locks.specs.Refusals.{unsound, lowest}
+use Rattle.locks.specs.Queries.{running-refusals, running-answer}
 use Rattle.locks.proofs.Bridge.{found-unsound, found-sound, runner-is}
 use Rattle.locks.proofs.queries.running_of.Statement.{statement}
 use Rattle.locks.proofs.queries.running_of.Tie as tie

@@ -6,8 +6,8 @@ use native.Mathlib.Omega.{arith}
 use borrow.Author.Needs.{needs}
 use borrow.Author.Tests.{not-false, lt-ltb, le-ltb, eq-eqb, ne-eqb}
 use Rattle.table.specs.Compute.{is-live}
-use Rattle.locks.specs.Refusals.{lowest}
-use Rattle.locks.specs.Queries.{unsound, thread-refusals, thread-told, thread-answer}
+use Rattle.locks.specs.Refusals.{unsound, lowest}
+use Rattle.locks.specs.Queries.{thread-refusals, thread-told, thread-answer}
 use Rattle.locks.proofs.OfSound.{current-stored}
 use Rattle.locks.proofs.Bridge.{found-unsound, found-sound, waits-is}
 use Rattle.locks.proofs.queries.thread_of.Statement.{statement}
