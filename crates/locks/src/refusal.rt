@@ -14,6 +14,7 @@ ghost use Rattle.locks.specs.Refusing.{Lent, record-number, queues-numbe
 use crate::Record;
 use table::Table;
 use table::queues::holder;
+use table::ways::NODES;
 use table::ways::from_resource;
 
 // P or V with a resource above 15; Exit with an argument other than 0; fourth byte not 0.
@@ -55,9 +56,6 @@ fn holds_any<'a>(queue: &'a [u8; Table::PLACES], length: &'a [u8; Table::RESOURC
     }
     false
 }
-
-// More nodes than a way without a circle has: it passes each of 32 threads and of 16 resources once at most.
-const NODES: u32 = 64;
 
 // Whether the chain from resource r ends at t. A thread that runs waits for nothing, so a chain that leads to it ends there.
 fn leads<'a>(

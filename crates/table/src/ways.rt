@@ -64,7 +64,7 @@ pub fn from_resource<'a>(
 }
 
 // More nodes than a way without a circle has: it passes each of 32 threads and of 16 resources once at most.
-const NODES: u32 = 64;
+pub const NODES: u32 = 64;
 
 // Marks the threads on the way from h, which ends, up to one that is marked already. Whether a resource is taken matters only to
 // whether the way ends, so the lengths are not read here, and the statement is for any lengths by which it ends.
