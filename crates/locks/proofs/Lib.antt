@@ -1,6 +1,7 @@
 -- Why the calls give what specs/ says, from the bottom up.
 pub mod Values
 pub mod Walked
+pub mod Rises
 pub mod OfSound
 pub mod Bridge
 pub mod Leads

@@ -1,5 +1,5 @@
 -- A thread joins a queue: whose numbers may change, and where the walk begins. Assumes nothing.
-use Prim.Native.Nat.{ℕ, _+_, _*_, _≤_, _<_}
+use Prim.Native.Nat.{ℕ, suc, _+_, _*_, _≤_, _<_, max}
 use mathlib.Core.Path.{_≡_, refl, sym, ap, subst, _∙_}
 use mathlib.Core.List.{List, [], _∷_, _++_}
 use mathlib.Core.Logic.{_≢_, _⊎_, inl, inr, ⊎-elim, by-cases}
@@ -13,8 +13,9 @@ use Rattle.protocol.specs.Graph.{Queues, waits as waits-in}
 use Rattle.protocol.specs.Schedule.{update}
 use Rattle.protocol.specs.Children.{children}
 use Rattle.protocol.proofs.Highest.{max-map}
+use Rattle.protocol.proofs.LocalLaw.{Local}
 use Rattle.protocol.proofs.Ways.{one-holder}
-use Rattle.protocol.proofs.Forest.{Joins, join-children, children-join, join-waits, waits-join, newly-waits}
+use Rattle.protocol.proofs.Forest.{Joins, join-children, children-join, join-waits, waits-join, newly-waits, join-new}
 use Rattle.table.specs.declared.Table.{Table}
 use Rattle.table.specs.Table.{at, live, queues, waits, holds}
 use Rattle.table.specs.Checked.{Shape}
@@ -29,8 +30,9 @@ use Rattle.locks.specs.Changed.{joined}
 use Rattle.locks.specs.Work.{Asks, Tracked}
 use Rattle.locks.proofs.Values.{Good, hops, own-number, Lawful, all-worth, Stands-at, resource-low, thread-low, current-fits}
 use Rattle.locks.specs.Count.{walk, request-count}
-use Rattle.locks.specs.Climb.{Climbed}
+use Rattle.locks.specs.Climb.{Climbed, Rising}
 use Rattle.locks.proofs.Walked.{Given, ending, climbed, climbed-short}
+use Rattle.locks.proofs.Rises.{comes-in, rising}
 use Rattle.locks.proofs.Bridge.{waits-is}
 use Rattle.locks.proofs.Bare.{Bare}
 use Rattle.locks.proofs.Joined.{room-for, joined-length, joined-places}
@@ -117,7 +119,7 @@ module _ (t : Table) {waiting owns currents : List ℕ} (th cs : ℕ) (k : Asks 
 
   -- cs is taken: th waits for it, and the walk begins at its holder
   module _ (h : ℕ) (held : holds t h cs) where
-    pub holder-alive : h ∈ live after
+    holder-alive : h ∈ live after
     holder-alive = live-stays h (found-sound t (k .checked) .queues-right .live-entries cs h (held .0))
 
     pub stands : Stands-at after after-good (at currents) (at currents) h
@@ -137,11 +139,34 @@ module _ (t : Table) {waiting owns currents : List ℕ} (th cs : ℕ) (k : Asks 
     }
 
     -- the way up from there ends, and passes at most 16 holders
-    pub start-ends : ListN.length waiting ≡ 32 → (n : ℕ) × (n ≤ 16) × Ending (set waiting th cs) (after .queue) (after .length) h n
+    start-ends : ListN.length waiting ≡ 32 → (n : ℕ) × (n ≤ 16) × Ending (set waiting th cs) (after .queue) (after .length) h n
     start-ends size = (
       after-good .order .forest .ends h .0,
       sixteen after (after-good .order) (resource-low after after-good) (thread-low after after-good) h,
       ending t after after-good (set waiting th cs) owns (at currents) (given size) (after-good .order .forest .ends h .1) holder-alive,
+    )
+
+    -- worked out afresh, the holder would have the higher of its number and th's
+    holder-next : Local _≤_ (hops after after-good) (own-number after after-good) (at currents) h (max (at currents h) (at currents th))
+    holder-next = rw (own-same h) (comes-in (at currents h) (at currents th) (found-lawful t (k .checked) h (live-same h holder-alive)) (inr (th, subst (λ (q : Queues). th ∈ children q h) (sym queues-are) (join-new joins h held), refl)) from to)
+      where
+        O : ℕ
+        O = own-number t (found-good t (k .checked)) h
+
+        from : (n : ℕ) → n ∈ (only O ∪ image (at currents) (hops after after-good h)) → (n ∈ (only O ∪ image (at currents) (hops t (found-good t (k .checked)) h))) ⊎ (n ≡ at currents th)
+        from n (inl e) = inl (inl e)
+        from n (inr (u, c, e)) = ⊎-elim (λ (d : u ∈ children (queues t) h). inl (inr (u, d, e))) (λ w. inr (e ∙ ap (at currents) (w .0))) (join-children joins u h (subst (λ (q : Queues). u ∈ children q h) queues-are c))
+
+        to : (n : ℕ) → n ∈ (only O ∪ image (at currents) (hops t (found-good t (k .checked)) h)) → (n ∈ (only O ∪ image (at currents) (hops after after-good h))) ⊎ (n < at currents th)
+        to n (inl e) = inl (inl e)
+        to n (inr (u, c, e)) = inl (inr (u, subst (λ (q : Queues). u ∈ children q h) (sym queues-are) (children-join joins u h c), e))
+
+    -- so from there on numbers rise to th's
+    pub start-rises : ListN.length waiting ≡ 32 → ListN.length currents ≡ 32 → (n : ℕ) × (n ≤ 17) × Rising (after .queue) (after .length) (set waiting th cs) owns (at currents th) currents h n
+    start-rises size full = (
+      suc (after-good .order .forest .ends h .0),
+      omega (arith, sixteen after (after-good .order) (resource-low after after-good) (thread-low after after-good) h),
+      rising t after after-good (set waiting th cs) owns (at currents) (given size) (at currents th) (after-good .order .forest .ends h .1) currents full stands holder-next,
     )
 
     -- after the walk all numbers are right, and it counts what the definition counts

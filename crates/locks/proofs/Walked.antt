@@ -52,6 +52,9 @@ module _ (t : Table) (g : Good t) (c : List ℕ) (o x : ℕ) where
   pub compared-law : (m : ℕ) → Max _≤_ (Compared (t .queue) (t .length) c 16 o x) m → Max _≤_ (only o ∪ image (at c) (hops t g x)) m
   compared-law m = max-map _≤_ ≤-total to-hops from-hops
 
+  pub law-compared : (m : ℕ) → Max _≤_ (only o ∪ image (at c) (hops t g x)) m → Max _≤_ (Compared (t .queue) (t .length) c 16 o x) m
+  law-compared m = max-map _≤_ ≤-total from-hops to-hops
+
   -- to store what the code found is to work x out afresh
   pub set-afresh : (v : ℕ) → o ≡ own-number t g x → ListN.length c ≡ 32 → x ∈ live t → Max _≤_ (Compared (t .queue) (t .length) c 16 o x) v → Afresh _≤_ (hops t g) (own-number t g) (at c) x (at (set c x v))
   set-afresh v e l i m = record {
@@ -97,7 +100,7 @@ module _ (b a : Table) (g : Good a) (waiting owns : List ℕ) (before : ℕ → 
       pub counted : (n : ℕ) → k ≤ n → walk n b a x ≡ k
 
     -- whom x waits for, as the arrays have it
-    up : (x : ℕ) → x ∈ live a → at waiting x < 16 → (entry (a .queue) (at waiting x) 0 ≡ blocker a x) × (x ∈ hops a g (blocker a x)) × (waits-for a x ≢ 16)
+    pub up : (x : ℕ) → x ∈ live a → at waiting x < 16 → (entry (a .queue) (at waiting x) 0 ≡ blocker a x) × (x ∈ hops a g (blocker a x)) × (waits-for a x ≢ 16)
     up x i low =
         let e = given .waiting-right x (thread-low a g x i) in
         ⊎-elim

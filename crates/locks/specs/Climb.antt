@@ -1,5 +1,5 @@
 -- Going up from holder to holder as the code goes about it, in numbers. Assumes nothing.
-use Prim.Native.Nat.{ℕ, suc, _≤_, _<_}
+use Prim.Native.Nat.{ℕ, suc, _≤_, _<_, max}
 use mathlib.Core.Logic.{_≢_}
 use mathlib.Core.List.{List}
 use lib.ListN.{set}
@@ -14,3 +14,9 @@ pub data Climbed (queue length waits owns : List ℕ) : List ℕ → ℕ → ℕ
   last : {c : List ℕ} {x v : ℕ} → Max _≤_ (Compared queue length c 16 (at owns x) x) v → v ≢ at c x → 16 ≤ at waits x → Climbed queue length waits owns c x 1 (set c x v)
   on : {c e : List ℕ} {x v k : ℕ} → Max _≤_ (Compared queue length c 16 (at owns x) x) v → v ≢ at c x → at waits x < 16
       → Climbed queue length waits owns (set c x v) (entry queue (at waits x) 0) k e → Climbed queue length waits owns c x (suc k) e
+
+-- Numbers rise to v. From x, with the numbers c: x worked out afresh is the higher of its number and v, and if v is higher and x waits
+-- for something, then with x at v the same is so from its holder. The way up comes to k threads at most.
+pub data Rising (queue length waits owns : List ℕ) (v : ℕ) : List ℕ → ℕ → ℕ → Type 0 where
+  rises : {c : List ℕ} {x k : ℕ} → x < 32 → Max _≤_ (Compared queue length c 16 (at owns x) x) (max (at c x) v)
+      → (at c x < v → at waits x < 16 → Rising queue length waits owns v (set c x v) (entry queue (at waits x) 0) k) → Rising queue length waits owns v c x (suc k)

@@ -1,9 +1,8 @@
-// The walk of a P: up from holder to holder, each worked out afresh.
-ghost use Prim.Native.Nat.{ℕ, _≤_, _<_};
-ghost use Rattle.table.specs.Walks.{Ending};
-ghost use Rattle.locks.specs.Climb.{Climbed};
+// The walk of a P: up from holder to holder.
+ghost use Prim.Native.Nat.{ℕ, _≤_};
+ghost use mathlib.Core.List.{List};
+ghost use Rattle.locks.specs.Climb.{Climbed, Rising};
 use table::Table;
-use table::law::afresh;
 use table::queues::wide;
 
 // The numbers of the current precedences after the walk, and how many threads were worked out.
@@ -12,24 +11,26 @@ pub struct Walk {
     pub count: u8,
 }
 
+// In a P numbers only rise: the requester's number v comes in below the first holder, so a thread's new number is the higher of its old
+// one and v, and v is the same all the way up. The statement is that of working each thread out afresh from all its waiters, for any
+// lengths and own numbers from which the numbers rise so: the code reads neither. 17: the first thread and 16 holders above it.
 pub fn climb<'a>(
     queue: &'a [u8; Table::PLACES],
-    length: &'a [u8; Table::RESOURCES],
     waits: &'a [u8; Table::THREADS],
-    own: &'a [u32; Table::THREADS],
     current: [u32; Table::THREADS],
     start: u8,
+    v: u32,
 ) -> Walk
-    requires { ⌜ (start < 32) × ((k : ℕ) × (k ≤ 16) × Ending (now waits) (now queue) (now length) start k) ⌝ }
-    ensures { λ w. ⌜ Climbed (now (queue .entry)) (now (length .entry)) (now (waits .entry)) (now (own .entry)) current start (w .count) (w .current) ⌝ }
+    requires { ⌜ ((length owns : List ℕ) × (k : ℕ) × (k ≤ 17) × Rising (now queue) length (now waits) owns v current start k) ⌝ }
+    ensures { λ w. ⌜ ((length owns : List ℕ) (k : ℕ) → k ≤ 17 → Rising (now (queue .entry)) length (now (waits .entry)) owns v current start k →
+        Climbed (now (queue .entry)) length (now (waits .entry)) owns current start (w .count) (w .current)) ⌝ }
 {
     let mut values = current;
     let mut at = start as usize;
     let mut n: u8 = 0;
     let count = loop {
         n += 1;
-        let v = afresh(queue, length, own[at], &values, at as u8);
-        if v == values[at] {
+        if v <= values[at] {
             break n;
         }
         values[at] = v;

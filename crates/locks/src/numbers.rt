@@ -35,7 +35,7 @@ pub fn numbers_after<'a>(
         Tracked (changed t e) (w .waits) (w .current) × (accepted (settled (changed t e)) (w .count) ≡ applied t e)) ⌝ }
 {
     if e.kind == Record::P {
-        return requested(queue, length, own, waits, current, e.thread, e.argument);
+        return requested(queue, length, waits, current, e.thread, e.argument);
     }
     if e.kind == Record::V {
         return released(queue, length, own, waits, current, e.thread, e.argument);

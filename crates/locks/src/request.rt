@@ -1,6 +1,7 @@
 // P: a thread joins the end of a resource's queue.
 ghost use mathlib.Core.Path.{_≡_};
-ghost use Prim.Native.Nat.{_+_, _*_, _<_};
+ghost use mathlib.Core.List.{List};
+ghost use Prim.Native.Nat.{ℕ, _+_, _*_, _<_};
 ghost use lib.ListN.{set};
 ghost use Rattle.table.specs.declared.Table.{Table};
 ghost use Rattle.table.specs.Table.{queues};
@@ -20,19 +21,18 @@ pub fn join(queue: &mut [u8; Table::PLACES], r: usize, n: usize, thread: u8)
     queue[r * Table::THREADS + n] = thread;
 }
 
-// With the thread alone in the queue, it holds the resource and no number changes. Otherwise it waits, and the walk goes up from the
-// holder.
+// With the thread alone in the queue, it holds the resource and no number changes. Otherwise it waits, and the walk carries its number
+// up from the holder. The own numbers are not read: the walk needs the current ones alone.
 pub fn requested<'a>(
     queue: &'a [u8; Table::PLACES],
     length: &'a [u8; Table::RESOURCES],
-    own: &'a [u32; Table::THREADS],
     waits: [u8; Table::THREADS],
     current: [u32; Table::THREADS],
     thread: u8,
     resource: u8,
 ) -> Values
-    requires { ⌜ ((t : Table) × Asks t waits (now own) current thread resource × Has-queues (joined t thread resource) (now queue) (now length)) ⌝ }
-    ensures { λ w. ⌜ ((t : Table) → Asks t waits (now (own .entry)) current thread resource → Has-queues (joined t thread resource) (now (queue .entry)) (now (length .entry)) →
+    requires { ⌜ ((t : Table) × (owns : List ℕ) × Asks t waits owns current thread resource × Has-queues (joined t thread resource) (now queue) (now length)) ⌝ }
+    ensures { λ w. ⌜ ((t : Table) (owns : List ℕ) → Asks t waits owns current thread resource → Has-queues (joined t thread resource) (now (queue .entry)) (now (length .entry)) →
         Tracked (joined t thread resource) (w .waits) (w .current) × (w .count ≡ request-count t (joined t thread resource) resource (queues t resource))) ⌝ }
 {
     let r = wide(resource);
@@ -43,15 +43,15 @@ pub fn requested<'a>(
             count: 0,
         };
     }
+    let i = wide(thread);
     let mut waiting = waits;
-    waiting[wide(thread)] = resource;
+    waiting[i] = resource;
     let walked = climb(
         queue,
-        length,
         &waiting,
-        own,
         current,
         queue[r * Table::THREADS],
+        current[i],
     );
     let values = walked.current;
     Values {

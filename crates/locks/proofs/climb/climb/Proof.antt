@@ -1,9 +1,8 @@
--- `locks::climb::climb` meets its contract. The loop's invariant: the way up from here, after the n threads so far, is the way up from the
--- start, and it ends soon. Assumes nothing.
-use Prim.Native.Nat.{ℕ, suc, _+_, _≤_, _<_, _-_}
+-- `locks::climb::climb` meets its contract. The loop's invariant: from here on numbers rise too, and the way up from here, after the n
+-- threads so far, is the way up from the start. Assumes nothing.
+use Prim.Native.Nat.{ℕ, suc, _+_, _≤_, _<_, _-_, max}
 use mathlib.Core.Path.{_≡_, ap, _∙_}
 use mathlib.Core.List.{List}
-use mathlib.Core.Logic.{_≢_}
 use native.Mathlib.Nat.{zero-add}
 use native.Mathlib.Omega.{arith}
 use borrow.Author.Needs.{needs}
@@ -12,65 +11,74 @@ use lib.ListN.{set, length-set}
 use Rattle.protocol.specs.Sets.{Max}
 use Rattle.table.specs.Parts.{entry, Compared}
 use Rattle.table.specs.Table.{at}
-use Rattle.table.specs.Walks.{Ending, here, goes-on}
-use Rattle.locks.specs.Climb.{Climbed, stays, last, on}
+use Rattle.locks.specs.Climb.{Climbed, stays, last, on, Rising, rises}
 use Rattle.locks.proofs.climb.climb.Statement.{statement}
 use Rattle.locks.proofs.climb.climb.Tie as tie
 use Rattle.locks.proofs.climb.climb.Reads as reads
 use Rattle.locks.proofs.climb.climb.Lts as lts
-use Rattle.table.proofs.law.afresh.Reads as afresh-reads
 use Rattle.table.proofs.queues.wide.Reads as wide-reads
 
-module _ (queue length waits owns values₀ : List ℕ) (x₀ : ℕ) where
-  abbrev Going : List ℕ → ℕ → ℕ → Type 0
-  Going values x n =
-      (x < 32) × (ListN.length values ≡ 32)
-      × ((k : ℕ) × (n + k ≤ 16) × Ending waits queue length x k)
-      × ((k : ℕ) (e : List ℕ) → Climbed queue length waits owns values x k e → Climbed queue length waits owns values₀ x₀ (n + k) e)
+-- a way starts at a thread
+way-low : {queue length waits owns values : List ℕ} {v x k : ℕ} → Rising queue length waits owns v values x k → x < 32
+way-low (rises low m up) = low
 
-  goes-up : (values : List ℕ) (x n v y : ℕ) → Max _≤_ (Compared queue length values 16 (at owns x) x) v → v ≢ at values x → at waits x < 16 → y ≡ entry queue (at waits x) 0 →
-      Going values x n → Going (set values x v) y (n + 1)
-  goes-up values x n v y m d low e (h, l, (k, b, w), g) = step w b
-    where
-      step : {k : ℕ} → Ending waits queue length x k → n + k ≤ 16 → Going (set values x v) y (n + 1)
-      step (here a i) b = absurd (omega (arith, i, low))
-      step (goes-on {k = j} a i z u) b = (
-        ending-low up,
-        length-set values x v ∙ l,
-        (j, omega arith, up),
-        λ i f w. let q : n + 1 + i ≡ n + suc i = omega arith in rw q (g (suc i) f (on m d low (rw e at w))),
-      )
-        where
-          up : Ending waits queue length y j
-          up = rw e u
+module _ (queue waits : List ℕ) (v : ℕ) where
+  -- numbers rise from x, and with the n threads so far the way has 17 at most
+  abbrev Rises : List ℕ → List ℕ → List ℕ → ℕ → ℕ → Type 0
+  Rises length owns values x n = (k : ℕ) × (n + k ≤ 17) × Rising queue length waits owns v values x k
 
-          ending-low : {z j : ℕ} → Ending waits queue length z j → z < 32
-          ending-low (here a i) = a
-          ending-low (goes-on a i z w) = a
+  module _ (length owns values : List ℕ) (x n : ℕ) where
+    abbrev Afresh : ℕ → Type 0
+    Afresh m = Max _≤_ (Compared queue length values 16 (at owns x) x) m
+
+    -- x is not one too many
+    few : Rises length owns values x n → n ≤ 16
+    few (k, b, rises low m up) = omega arith
+
+    -- what working x out afresh gives, where its number is at least v, and where it is below
+    same : Rises length owns values x n → v ≤ at values x → Afresh (at values x)
+    same (k, b, rises low m up) h = let e : max (at values x) v ≡ at values x = omega (arith, h) in rw e at m
+
+    higher : Rises length owns values x n → at values x < v → Afresh v
+    higher (k, b, rises low m up) h = let e : max (at values x) v ≡ v = omega (arith, h) in rw e at m
+
+    rises-on : (y : ℕ) → at values x < v → at waits x < 16 → y ≡ entry queue (at waits x) 0 → Rises length owns values x n → Rises length owns (set values x v) y (n + 1)
+    rises-on y rose wait e (k, b, rises {k = j} low m up) = (j, omega arith, rw e (up rose wait))
+
+  module _ (values₀ : List ℕ) (x₀ : ℕ) where
+    -- numbers rise from x, and the way up from there continues the one from the start
+    abbrev Way : List ℕ → List ℕ → List ℕ → ℕ → ℕ → Type 0
+    Way length owns values x n = Rises length owns values x n
+        × ((k : ℕ) (e : List ℕ) → Climbed queue length waits owns values x k e → Climbed queue length waits owns values₀ x₀ (n + k) e)
+
+    abbrev Going : List ℕ → ℕ → ℕ → Type 0
+    Going values x n =
+        (x < 32) × (n ≤ 16) × (ListN.length values ≡ 32)
+        × ((length owns : List ℕ) (k : ℕ) → k ≤ 17 → Rising queue length waits owns v values₀ x₀ k → Way length owns values x n)
+
+    goes-up : ((length owns : List ℕ) × (k : ℕ) × (k ≤ 17) × Rising queue length waits owns v values₀ x₀ k) →
+        (values : List ℕ) (x n y : ℕ) → at values x < v → at waits x < 16 → y ≡ entry queue (at waits x) 0 → Going values x n → Going (set values x v) y (n + 1)
+    goes-up (lengths, numbers, i, few-left, start) values x n y rose wait e (low, short, size, way) =
+        let up = rises-on lengths numbers values x n y rose wait e (way lengths numbers i few-left start .0) in
+        (way-low (up .2), few lengths numbers (set values x v) y (n + 1) up, length-set values x v ∙ size, λ length owns k b r. further length owns (way length owns k b r))
+      where
+        further : (length owns : List ℕ) → Way length owns values x n → Way length owns (set values x v) y (n + 1)
+        further length owns (r, g) = (
+          rises-on length owns values x n y rose wait e r,
+          λ i f w. let q : n + 1 + i ≡ n + suc i = omega arith in rw q (g (suc i) f (on (higher length owns values x n r rose) (λ d. absurd (omega (arith, d, rose))) wait (rw e at w))),
+        )
 
 abbrev Inv-loop : tie.InvT-loop
-Inv-loop queue length waits own start values₀ at₀ n₀ values at n = Going queue length waits own values₀ at₀ values at n
+Inv-loop queue waits start v values₀ at₀ n₀ values at n = Going queue waits v values₀ at₀ values at n
 
 abbrev μ-loop : tie.MeasureT-loop
-μ-loop queue length waits own start values₀ at₀ n₀ values at n = 17 - n
+μ-loop queue waits start v values₀ at₀ n₀ values at n = 17 - n
 
 loop-holds : tie.Need-loop-holds Inv-loop μ-loop
-loop-holds c = let p = c .pre in (p .0, search needs, (p .1 .0, omega (arith, p .1 .1), p .1 .2), λ k e w. rw (zero-add k) w)
+loop-holds c = (way-low (c .pre .4), omega arith, search needs, λ length owns k b r. ((k, omega (arith, b), r), λ i e w. rw (zero-add i) w))
 
 add-n : tie.Need-add-n Inv-loop μ-loop
 add-n c = search needs
-
-mul-afresh : tie.Need-mul-afresh Inv-loop μ-loop
-mul-afresh c = search needs
-
-element-copy-out-afresh : tie.Need-element-copy-out-afresh Inv-loop μ-loop
-element-copy-out-afresh c = search needs
-
-cast-afresh : tie.Need-cast-afresh Inv-loop μ-loop
-cast-afresh c = search needs
-
-afresh-requires : tie.Need-afresh-requires Inv-loop μ-loop
-afresh-requires c κs = search needs
 
 mul-if1 : tie.Need-mul-if1 Inv-loop μ-loop
 mul-if1 c = search needs
@@ -100,24 +108,31 @@ wide-requires-2 : tie.Need-wide-requires-2 Inv-loop μ-loop
 wide-requires-2 c κs = search needs
 
 loop-less : tie.Need-loop-less Inv-loop μ-loop
-loop-less c = omega (arith, c .before .before .before .before .before .before .before .before .before .loop .inv .2 .1)
+loop-less c = search needs
 
 loop-again : tie.Need-loop-again Inv-loop μ-loop
 loop-again c =
-    let h = c .before .before .before .before .before .before .before .before .before in
+    let h = c .before .before .before .before .before .before in
     let a = h .before .args in
-    goes-up (a .queue .now) (a .length .now) (a .waits .now) (a .own .now) (a .current) (a .start) (h .loop .values) (h .loop .at) (h .loop .n)
-    (c .before .before .before .before .before .before .afresh .result) (c .wide2 .result) (c .before .before .before .before .before .before .afresh .ensures) (c .before .before .before .before .before .if1 .left) (search needs) (c .wide2 .ensures .0 ∙ ap (at (a .queue .now)) (omega (arith, c .before .before .wide .ensures .0))) (h .loop .inv)
+    goes-up (a .queue .now) (a .waits .now) (a .v) (a .current) (a .start) (h .before .pre) (h .loop .values) (h .loop .at) (h .loop .n) (c .wide2 .result)
+    (search needs) (search needs) (c .wide2 .ensures .0 ∙ ap (at (a .queue .now)) (omega (arith, c .before .before .wide .ensures .0))) (h .loop .inv)
 
 returns : tie.Need-returns Inv-loop μ-loop
 returns c =
-    let h = c .before .before .before .before in
-    h .loop .inv .3 1 (h .loop .values) (stays (rw (c .if1 .taken) at (c .before .afresh .ensures)))
+    let h = c .before in
+    let a = h .before .args in
+    λ length owns k b r.
+    let w = h .loop .inv .3 length owns k b r in
+    w .1 1 (h .loop .values) (stays (same (a .queue .now) (a .waits .now) (a .v) length owns (h .loop .values) (h .loop .at) (h .loop .n) (w .0) (c .if1 .taken)))
 
 returns-2 : tie.Need-returns-2 Inv-loop μ-loop
 returns-2 c =
-    let h = c .before .before .before .before .before .before in
-    h .loop .inv .3 1 (set (h .loop .values) (h .loop .at) (c .before .before .before .afresh .result)) (last (c .before .before .before .afresh .ensures) (c .before .before .if1 .left) (c .if2 .taken))
+    let h = c .before .before .before in
+    let a = h .before .args in
+    let rose : at (h .loop .values) (h .loop .at) < a .v = search needs in
+    λ length owns k b r.
+    let w = h .loop .inv .3 length owns k b r in
+    w .1 1 (set (h .loop .values) (h .loop .at) (a .v)) (last (higher (a .queue .now) (a .waits .now) (a .v) length owns (h .loop .values) (h .loop .at) (h .loop .n) (w .0) rose) (λ d. absurd (omega (arith, d, rose))) (omega (arith, c .if2 .taken)))
 
 pub climb-spec : {M : Type 1} → statement M
 climb-spec =
@@ -127,10 +142,6 @@ climb-spec =
     μ-loop
     loop-holds
     add-n
-    mul-afresh
-    element-copy-out-afresh
-    cast-afresh
-    afresh-requires
     mul-if1
     array-read-if1
     mul-values

@@ -26,13 +26,13 @@ requested-requires : tie.Need-requested-requires
 requested-requires c κs =
     let h = c .before .before in
     let w = asks (h .pre .0) (h .args .e) (h .pre .1) (c .if1 .taken) in
-    (h .pre .0, w .0, w .1)
+    (h .pre .0, h .args .own .now, w .0, w .1)
 
 returns : tie.Need-returns
 returns c =
-    let e = c .before .before .before .args .e in
+    let a = c .before .before .before .args in
     let kind = c .before .if1 .taken in
-    λ t w. let k = asks t e w kind in request-right t e w kind (c .requested .ensures t (k .0) (k .1))
+    λ t w. let k = asks t (a .e) w kind in request-right t (a .e) w kind (c .requested .ensures t (a .own .now) (k .0) (k .1))
 
 released-requires : tie.Need-released-requires
 released-requires c κs =

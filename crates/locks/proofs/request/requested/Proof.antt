@@ -8,14 +8,12 @@ use lib.ListN
 use lib.ListN.{set}
 use Rattle.table.specs.declared.Table.{Table}
 use Rattle.table.specs.Table.{at, queues, holds}
-use Rattle.table.specs.Walks.{Ending}
 use Rattle.table.proofs.Rows.{live-low}
 use Rattle.locks.specs.Count.{request-count}
-use Rattle.locks.specs.Climb.{Climbed}
+use Rattle.locks.specs.Climb.{Climbed, Rising}
 use Rattle.locks.specs.Changed.{joined, Has-queues}
 use Rattle.locks.specs.Work.{Asks, Tracked}
-use Rattle.locks.proofs.Values.{thread-low}
-use Rattle.locks.proofs.RequestWork.{unheld, first-held, free-tracked, free-count, longer, same-head, start-ends, walked, holder-alive, after-good}
+use Rattle.locks.proofs.RequestWork.{unheld, first-held, free-tracked, free-count, longer, same-head, start-rises, walked}
 use borrow.Author.Needs.{needs}
 use Rattle.locks.proofs.request.requested.Statement.{statement}
 use Rattle.locks.proofs.request.requested.Tie as tie
@@ -32,7 +30,7 @@ module _ {waiting owns currents queue length : List ℕ} (t : Table) (th cs : �
   free : at length w ≡ 1 → Tracked (joined t th cs) waiting currents × (0 ≡ request-count t (joined t th cs) cs (queues t cs))
   free e = let z : at (t .length) cs ≡ 0 = omega (arith, length-now) in (free-tracked t th cs k (unheld t th cs k z), free-count t th cs k z)
 
-  module _ (taken : at length w ≢ 1) (i : ℕ) (index : i ≡ th) (size : ListN.length waiting ≡ 32) where
+  module _ (taken : at length w ≢ 1) (i : ℕ) (index : i ≡ th) (size : ListN.length waiting ≡ 32) (full : ListN.length currents ≡ 32) where
     was-taken : at (t .length) cs ≢ 0
     was-taken z = taken (length-now ∙ ap (λ (n : ℕ). n + 1) z)
 
@@ -42,19 +40,25 @@ module _ {waiting owns currents queue length : List ℕ} (t : Table) (th cs : �
     held : holds t (at (joined t th cs .queue) (cs * 32)) cs
     held = rw (same-head t th cs k was-taken) (first-held t th cs k was-taken)
 
-    may-climb : (at queue (w * 32) < 32) × ((n : ℕ) × (n ≤ 16) × Ending (set waiting i cs) queue length (at queue (w * 32)) n)
-    may-climb = rw (head-now, index, q .queue-is, q .length-is)
-        (thread-low (joined t th cs) (after-good t th cs k) (at (joined t th cs .queue) (cs * 32)) (holder-alive t th cs k (at (joined t th cs .queue) (cs * 32)) held), start-ends t th cs k (at (joined t th cs .queue) (cs * 32)) held size)
+    may-climb : (n : ℕ) × (n ≤ 17) × Rising queue length (set waiting i cs) owns (at currents i) currents (at queue (w * 32)) n
+    may-climb = rw (head-now, index, q .queue-is, q .length-is) (start-rises t th cs k (at (joined t th cs .queue) (cs * 32)) held size full)
 
-    works : {e : List ℕ} {n : ℕ} → ListN.length currents ≡ 32 → Climbed queue length (set waiting i cs) owns currents (at queue (w * 32)) n e →
+    works : {e : List ℕ} {n : ℕ} → Climbed queue length (set waiting i cs) owns currents (at queue (w * 32)) n e →
         Tracked (joined t th cs) (set waiting i cs) e × (n ≡ request-count t (joined t th cs) cs (queues t cs))
-    works full c = rw index (walked t th cs k (at (joined t th cs .queue) (cs * 32)) held size full (rw (head-now, index, q .queue-is, q .length-is) at c))
+    works c = rw index (walked t th cs k (at (joined t th cs .queue) (cs * 32)) held size full (rw (head-now, index, q .queue-is, q .length-is) at c))
 
-waits-size : (c : lts.Start (wide-reads.Asked, wide-reads.Learnt, climb-reads.Asked, climb-reads.Learnt) reads.Pre reads.Post) → ListN.length (c .args .waits) ≡ 32
+abbrev Start : Type 0
+Start = lts.Start (wide-reads.Asked, wide-reads.Learnt, climb-reads.Asked, climb-reads.Learnt) reads.Pre reads.Post
+
+waits-size : (c : Start) → ListN.length (c .args .waits) ≡ 32
 waits-size c = search needs
 
-current-size : (c : lts.Start (wide-reads.Asked, wide-reads.Learnt, climb-reads.Asked, climb-reads.Learnt) reads.Pre reads.Post) → ListN.length (c .args .current) ≡ 32
+-- `t4` is `current`, which is read by place
+current-size : (c : Start) → ListN.length (c .args .t4) ≡ 32
 current-size c = search needs
+
+thread-small : (c : Start) → c .args .thread < 32
+thread-small c = live-low (c .pre .0) (c .pre .2 .checked .shape) (c .args .thread) (c .pre .2 .alive)
 
 wide-requires : tie.Need-wide-requires
 wide-requires c κs = search needs
@@ -65,16 +69,13 @@ element-copy-out-if1 c = search needs
 returns : tie.Need-returns
 returns c =
     let a = c .before .before .before .args in
-    λ t k q. free t (a .thread) (a .resource) k q (c .before .before .wide .result) (c .before .before .wide .ensures .0) (c .if1 .taken)
+    λ t owns k q. free t (a .thread) (a .resource) k q (c .before .before .wide .result) (c .before .before .wide .ensures .0) (c .if1 .taken)
 
 wide-requires-2 : tie.Need-wide-requires-2
 wide-requires-2 c κs = search needs
 
 array-write-waiting : tie.Need-array-write-waiting
-array-write-waiting c =
-    let h = c .before .before .before .before in
-    let k = h .pre .1 in
-    omega (arith, live-low (h .pre .0) (k .checked .shape) (h .args .thread) (k .alive), c .wide2 .ensures .0)
+array-write-waiting c = omega (arith, thread-small (c .before .before .before .before), c .wide2 .ensures .0)
 
 mul-climb : tie.Need-mul-climb
 mul-climb c = search needs
@@ -82,15 +83,28 @@ mul-climb c = search needs
 element-copy-out-climb : tie.Need-element-copy-out-climb
 element-copy-out-climb c = search needs
 
+mul-climb-2 : tie.Need-mul-climb-2
+mul-climb-2 c = search needs
+
+array-read-climb : tie.Need-array-read-climb
+array-read-climb c = omega (arith, thread-small (c .before .before .before .before .before .before), c .before .before .wide2 .ensures .0)
+
 climb-requires : tie.Need-climb-requires
 climb-requires c κs =
     let h = c .before .before .before .before .before .before in
-    may-climb (h .pre .0) (h .args .thread) (h .args .resource) (h .pre .1) (h .pre .2) (c .before .before .before .before .before .wide .result) (c .before .before .before .before .before .wide .ensures .0) (c .before .before .before .if1 .left) (c .before .before .wide2 .result) (c .before .before .wide2 .ensures .0) (waits-size h)
+    let p = h .pre in
+    let m = may-climb (p .0) (h .args .thread) (h .args .resource) (p .2) (p .3) (c .before .before .before .before .before .wide .result) (c .before .before .before .before .before .wide .ensures .0) (c .before .before .before .if1 .left) (c .before .before .wide2 .result) (c .before .before .wide2 .ensures .0) (waits-size h) (current-size h) in
+    (h .args .length .now, p .1, m .0, m .1, m .2)
 
 returns-2 : tie.Need-returns-2
 returns-2 c =
     let h = c .before .before .before .before .before .before .before .before in
-    λ t k q. works t (h .args .thread) (h .args .resource) k q (c .before .before .before .before .before .before .before .wide .result) (c .before .before .before .before .before .before .before .wide .ensures .0) (c .before .before .before .before .before .if1 .left) (c .before .before .before .before .wide2 .result) (c .before .before .before .before .wide2 .ensures .0) (waits-size h) (current-size h) (c .before .climb .ensures)
+    let w = c .before .before .before .before .before .before .before .wide in
+    let i = c .before .before .before .before .wide2 in
+    let taken = c .before .before .before .before .before .if1 .left in
+    λ t owns k q.
+    let m = may-climb t (h .args .thread) (h .args .resource) k q (w .result) (w .ensures .0) taken (i .result) (i .ensures .0) (waits-size h) (current-size h) in
+    works t (h .args .thread) (h .args .resource) k q (w .result) (w .ensures .0) taken (i .result) (i .ensures .0) (waits-size h) (current-size h) (c .before .climb .ensures (h .args .length .now) owns (m .0) (m .1) (m .2))
 
 pub requested-spec : {M : Type 1} → statement M
 requested-spec =
@@ -103,5 +117,7 @@ requested-spec =
     array-write-waiting
     mul-climb
     element-copy-out-climb
+    mul-climb-2
+    array-read-climb
     climb-requires
     returns-2)
