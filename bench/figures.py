@@ -117,7 +117,7 @@ def verdict(counts, rows):
     if unmet == 0:
         return 'All are met.'
     words = [f"""**{unmet} of {len(rows)} are not met.** The step is a function from a table to a table, as it is proved, and the thin call stores its result, so the
-table is copied on the way, which C that changes bytes in place does not do. How much of the difference that makes is not counted here."""]
+table is copied in and out, which C that changes bytes in place does not do. `docs/DECISIONS.md` says what was tried."""]
     rising, falling = (counts[name]['locktable_running']['worst'] for name in ('chain_32', 'falling_32'))
     if falling > 1.2 * rising:
         words.append(f"""The order of ids matters: on the same chain the soundness test takes {number(rising)} at worst with rising ids and
