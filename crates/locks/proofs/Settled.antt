@@ -13,7 +13,7 @@ use Rattle.table.specs.declared.Table.{Table}
 use Rattle.table.specs.Table.{at, live, stored, cprec}
 use Rattle.table.specs.Sound.{Zero-slot, Sound}
 use Rattle.table.specs.Checked.{Shape}
-use Rattle.table.specs.Compute.{blocker, is-live, waits-for, current, runner}
+use Rattle.table.specs.Compute.{blocker, is-live, waits-for, current}
 use Rattle.table.proofs.Sums.{beyond}
 use Rattle.table.proofs.Rows.{live-low}
 use Rattle.table.proofs.Computed.{tells-live}
@@ -22,7 +22,7 @@ use Rattle.locks.specs.Changed.{with-current}
 use Rattle.locks.proofs.Values.{Good, current-defined}
 use Rattle.locks.proofs.Bare.{Bare, bare-orderly}
 use Rattle.locks.proofs.Tabulate.{tabulate-length, tabulate-at}
-use Rattle.locks.proofs.Unstored.{blocker-unstored, waits-for-unstored, current-unstored, runner-unstored}
+use Rattle.locks.proofs.Unstored.{blocker-unstored, waits-for-unstored, current-unstored}
 
 -- a table that is sound but for its stored current precedences is in good order, and its times fit
 pub bare-good : (t : Table) → Shape t → Bare t → Good t
@@ -126,10 +126,6 @@ settled-waits-for t th = waits-for-unstored t _ _ th
 pub settled-current : (t : Table) (th : ℕ) → current (settled t) th ≡ current t th
 unfolding settled
 settled-current t th = current-unstored t _ _ th
-
-pub settled-runner : (t : Table) → runner (settled t) ≡ runner t
-unfolding settled
-settled-runner t = runner-unstored t _ _
 
 pub settled-blocker : (t : Table) (th : ℕ) → blocker (settled t) th ≡ blocker t th
 unfolding settled

@@ -5,7 +5,7 @@ use mathlib.Core.List.{List}
 use Rattle.protocol.specs.Events.{Precedence}
 use Rattle.table.specs.declared.Table.{Table}
 use Rattle.table.specs.Table.{at}
-use Rattle.table.specs.Compute.{is-live, holder, is-waiting, waits-for, blocker, depends, highest-behind, current, is-ready, leader, runner}
+use Rattle.table.specs.Compute.{holder, is-waiting, waits-for, blocker, depends, highest-behind, current}
 use Rattle.locks.specs.Changed.{with-current}
 
 module _ (t : Table) (cp ct : List ℕ) where
@@ -34,18 +34,3 @@ module _ (t : Table) (cp ct : List ℕ) where
   pub current-unstored : (th : ℕ) → current (with-current t cp ct) th ≡ current t th
   unfolding current
   current-unstored th = highest-unstored th (at (t .priority) th, at (t .time) th) 32
-
-  -- who is ready, and who leads among the first n
-  ready-unstored : (th : ℕ) → is-ready (with-current t cp ct) th ≡ is-ready t th
-  unfolding is-ready is-live
-  ready-unstored th = rw (waits-for-unstored th)
-
-  leader-unstored : (n : ℕ) → leader (with-current t cp ct) n ≡ leader t n
-  unfolding leader
-  leader-unstored zero = refl
-  leader-unstored (suc n) = rw (ready-unstored n, leader-unstored n, current-unstored n, current-unstored (leader t n))
-
-  -- the running thread
-  pub runner-unstored : runner (with-current t cp ct) ≡ runner t
-  unfolding runner
-  runner-unstored = leader-unstored 32

@@ -14,9 +14,6 @@ use Rattle.table.specs.Table.{at}
 use Rattle.locks.specs.Climb.{Climbed, stays, last, on, Rising, rises}
 use Rattle.locks.proofs.climb.climb.Statement.{statement}
 use Rattle.locks.proofs.climb.climb.Tie as tie
-use Rattle.locks.proofs.climb.climb.Reads as reads
-use Rattle.locks.proofs.climb.climb.Lts as lts
-use Rattle.table.proofs.queues.wide.Reads as wide-reads
 
 -- a way starts at a thread
 way-low : {queue length waits owns values : List ℕ} {v x k : ℕ} → Rising queue length waits owns v values x k → x < 32

@@ -7,9 +7,6 @@ use Rattle.table.specs.Table.{at}
 use Rattle.locks.proofs.Stored.{Filled, fill-none, fill-next}
 use Rattle.locks.proofs.finish.store_priorities.Statement.{statement}
 use Rattle.locks.proofs.finish.store_priorities.Tie as tie
-use Rattle.locks.proofs.finish.store_priorities.Reads as reads
-use Rattle.locks.proofs.finish.store_priorities.Lts as lts
-use Rattle.locks.proofs.finish.priority_in.Reads as priority-in-reads
 
 abbrev Inv-loop : tie.InvT-loop
 Inv-loop to₀ current i₀ to i = (i ≤ 32) × Filled (λ th. at current th / 65536) i to

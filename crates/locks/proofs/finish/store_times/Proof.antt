@@ -8,9 +8,6 @@ use Rattle.locks.specs.Work.{time-in}
 use Rattle.locks.proofs.Stored.{Filled, fill-none, fill-next}
 use Rattle.locks.proofs.finish.store_times.Statement.{statement}
 use Rattle.locks.proofs.finish.store_times.Tie as tie
-use Rattle.locks.proofs.finish.store_times.Reads as reads
-use Rattle.locks.proofs.finish.store_times.Lts as lts
-use Rattle.locks.proofs.finish.time_in.Reads as time-in-reads
 
 abbrev Inv-loop : tie.InvT-loop
 Inv-loop to₀ current i₀ to i = (i ≤ 32) × Filled (λ th. time-in (at current th)) i to

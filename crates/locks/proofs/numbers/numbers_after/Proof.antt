@@ -7,12 +7,6 @@ use native.Mathlib.Omega.{arith}
 use Rattle.locks.proofs.CarriedOut.{admits, asks, releases, exits, sets, set-queues, request-right, release-right, exit-right, set-right}
 use Rattle.locks.proofs.numbers.numbers_after.Statement.{statement}
 use Rattle.locks.proofs.numbers.numbers_after.Tie as tie
-use Rattle.locks.proofs.numbers.numbers_after.Reads as reads
-use Rattle.locks.proofs.numbers.numbers_after.Lts as lts
-use Rattle.locks.proofs.release.released.Reads as released-reads
-use Rattle.locks.proofs.request.requested.Reads as requested-reads
-use Rattle.locks.proofs.slots.slot_cleared.Reads as slot-cleared-reads
-use Rattle.locks.proofs.slots.slot_set.Reads as slot-set-reads
 
 -- Create or Set, if no other kind
 first-or-third : (kind : ℕ) → 1 ≤ kind → kind ≤ 5 → kind ≢ 4 → kind ≢ 5 → kind ≢ 2 → (kind ≡ 1) ⊎ (kind ≡ 3)

@@ -8,8 +8,6 @@ use lib.ListN.{length}
 use Rattle.locks.proofs.Shift.{Shifted, shift-none, shift-next, handed-row}
 use Rattle.locks.proofs.release.hand_over.Statement.{statement}
 use Rattle.locks.proofs.release.hand_over.Tie as tie
-use Rattle.locks.proofs.release.hand_over.Reads as reads
-use Rattle.locks.proofs.release.hand_over.Lts as lts
 
 abbrev Inv-loop : tie.InvT-loop
 Inv-loop queue₀ r p n start last heir at₀ queue at =

@@ -12,9 +12,6 @@ use Rattle.table.specs.Parts.{entry}
 use Rattle.locks.specs.Heir.{Heir-place}
 use Rattle.locks.proofs.release.heir_place.Statement.{statement}
 use Rattle.locks.proofs.release.heir_place.Tie as tie
-use Rattle.locks.proofs.release.heir_place.Reads as reads
-use Rattle.locks.proofs.release.heir_place.Lts as lts
-use Rattle.table.proofs.law.value.Reads as value-reads
 
 -- one entry more: the place stays where its number is not above, and otherwise it is the entry's
 module _ (queue owns : List ℕ) (r i p : ℕ) (h : Heir-place queue owns r i p) where

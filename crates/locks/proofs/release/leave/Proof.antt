@@ -9,11 +9,6 @@ use Rattle.locks.proofs.Written.{row-is, emptied}
 use borrow.Author.Needs.{needs}
 use Rattle.locks.proofs.release.leave.Statement.{statement}
 use Rattle.locks.proofs.release.leave.Tie as tie
-use Rattle.locks.proofs.release.leave.Reads as reads
-use Rattle.locks.proofs.release.leave.Lts as lts
-use Rattle.locks.proofs.release.hand_over.Reads as hand-over-reads
-use Rattle.locks.proofs.release.heir_place.Reads as heir-place-reads
-use Rattle.locks.proofs.release.vacate.Reads as vacate-reads
 
 vacate-requires : tie.Need-vacate-requires
 vacate-requires c κs = search needs

@@ -17,11 +17,6 @@ use Rattle.locks.specs.Rows.{rewritten, Row, Requeues}
 use Rattle.locks.proofs.Requeued.{either, last, room, join-right, row, vacate-right, hand-right}
 use Rattle.locks.proofs.requeue.requeue.Statement.{statement}
 use Rattle.locks.proofs.requeue.requeue.Tie as tie
-use Rattle.locks.proofs.requeue.requeue.Reads as reads
-use Rattle.locks.proofs.requeue.requeue.Lts as lts
-use Rattle.locks.proofs.release.leave.Reads as leave-reads
-use Rattle.locks.proofs.request.join.Reads as join-reads
-use Rattle.table.proofs.queues.wide.Reads as wide-reads
 
 -- the places and numbers as the code has them, beside those of the laws
 module _ {queue owns : List ℕ} {n : ℕ} (t : Table) (e : Record) (k : Requeues t e queue owns n) (r m : ℕ) (wide : r ≡ e .argument) (count : m ≡ n) (xs : List ℕ) where

@@ -5,8 +5,6 @@ use Rattle.locks.proofs.SlotWork.{exit-tracked}
 use borrow.Author.Needs.{needs}
 use Rattle.locks.proofs.slots.slot_cleared.Statement.{statement}
 use Rattle.locks.proofs.slots.slot_cleared.Tie as tie
-use Rattle.locks.proofs.slots.slot_cleared.Reads as reads
-use Rattle.locks.proofs.slots.slot_cleared.Lts as lts
 
 mul-all : tie.Need-mul-all
 mul-all c = search needs

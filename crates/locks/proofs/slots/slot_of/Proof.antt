@@ -3,10 +3,6 @@ use borrow.Author.Tests.{eq-eqb, ne-eqb}
 use borrow.Author.Needs.{needs}
 use Rattle.locks.proofs.slots.slot_of.Statement.{statement}
 use Rattle.locks.proofs.slots.slot_of.Tie as tie
-use Rattle.locks.proofs.slots.slot_of.Reads as reads
-use Rattle.locks.proofs.slots.slot_of.Lts as lts
-use Rattle.locks.proofs.slots.dead.Reads as dead-reads
-use Rattle.locks.proofs.slots.fresh.Reads as fresh-reads
 
 dead-requires : tie.Need-dead-requires
 dead-requires c κs = search needs

@@ -6,10 +6,6 @@ use Rattle.locks.proofs.SlotWork.{set-tracked}
 use borrow.Author.Needs.{needs}
 use Rattle.locks.proofs.slots.slot_set.Statement.{statement}
 use Rattle.locks.proofs.slots.slot_set.Tie as tie
-use Rattle.locks.proofs.slots.slot_set.Reads as reads
-use Rattle.locks.proofs.slots.slot_set.Lts as lts
-use Rattle.table.proofs.law.afresh.Reads as afresh-reads
-use Rattle.table.proofs.numbers.number.Reads as number-reads
 
 number-requires : tie.Need-number-requires
 number-requires c κs = search needs
