@@ -1,47 +1,25 @@
 -- The table's choice of the next holder is document 01's in the paper's terms, and a record has one event in a valid state. Assumes nothing.
 use Prim.Native.Nat.{ℕ}
-use mathlib.Core.Path.{_≡_, refl, sym, ap, subst, _∙_}
-use mathlib.Core.Bool.{Bool, true, false, cond, false≢true}
+use mathlib.Core.Path.{_≡_, refl, sym, ap, subst}
 use mathlib.Core.Option.{Option, none, some}
 use mathlib.Core.List.{List, [], _∷_}
-use mathlib.Core.Logic.{inl, inr, ⊎-elim}
 use native.Mathlib.Omega.{arith}
 use Rattle.protocol.specs.Sets.{_∈_, set, distinct}
 use Rattle.protocol.specs.Graph.{Queues}
 use Rattle.protocol.specs.Events.{Event, Create, Exit, Set, P, «V», State, threads, Precedence, prec, _≼_}
 use Rattle.protocol.specs.Schedule.{wq, waits}
 use Rattle.protocol.specs.Rules.{valid}
-use Rattle.protocol.proofs.Order.{≼-total, compare}
+use Rattle.protocol.proofs.Order.{≼-total}
 use Rattle.protocol.proofs.Lists.{Waiting, Follows, waiting-behind}
 use Rattle.protocol.proofs.Kept.{prec-differs, valid-kept}
 use Rattle.table.specs.declared.Table.{Table}
 use Rattle.table.specs.Table.{own}
-use Rattle.table.specs.Compute.{is-higher}
-use Rattle.table.proofs.Reflect.{tells-higher}
 use Rattle.locks.specs.declared.Record.{Record}
-use Rattle.locks.specs.Events.{highest-own, heir}
-use Rattle.locks.proofs.Heir.{heir-follows}
+use Rattle.locks.specs.Events.{heir}
+use Rattle.locks.proofs.Heir.{own-top, heir-follows}
 use Rattle.locks.proofs.StaysSound.{Right}
 use Rattle.demands.specs.Runs.{Chosen, Writes, create, exit, set-anew, request, release}
 use Rattle.demands.proofs.Agrees.{Agrees}
-
--- what is not higher is at most the other
-not-higher : (p q : Precedence) → is-higher p q ≡ false → p ≼ q
-not-higher p q e = ⊎-elim {C = p ≼ q} (λ h. absurd (false≢true (sym e ∙ tells-higher p q .1 h))) (λ k. k) (compare p q)
-
--- nobody among them has a higher own precedence than the one that `highest-own` names
-own-top : (t : Table) (th : ℕ) (xs : List ℕ) (x : ℕ) → x ∈ set (th ∷ xs) → own t x ≼ own t (highest-own t th xs)
-unfolding highest-own
-own-top t th [] x i = ⊎-elim {C = own t x ≼ own t th} (λ e. inl (ap (own t) e)) absurd i
-own-top t th (y ∷ ys) x i = go (is-higher (own t y) (own t th)) refl (λ z. own-top t z ys) i
-  where
-    go : (b : Bool) → is-higher (own t y) (own t th) ≡ b → ((z u : ℕ) → u ∈ set (z ∷ ys) → own t u ≼ own t (highest-own t z ys)) → x ∈ set (th ∷ (y ∷ ys)) →
-        own t x ≼ own t (highest-own t (cond b y th) ys)
-    go true e rest (inl q) = rw q (≼-total .transitive (own t th) (own t y) (own t (highest-own t y ys)) (inr (tells-higher (own t y) (own t th) .0 e)) (rest y y (inl refl)))
-    go true e rest (inr j) = rest y x j
-    go false e rest (inl q) = rest th x (inl q)
-    go false e rest (inr (inl q)) = rw q (≼-total .transitive (own t y) (own t th) (own t (highest-own t th ys)) (not-higher (own t y) (own t th) e) (rest th th (inl refl)))
-    go false e rest (inr (inr j)) = rest th x (inr j)
 
 -- nobody who waits in q has a higher own precedence than the one that follows, if anyone does
 abbrev Tops : Table → List ℕ → Option ℕ → Type 0

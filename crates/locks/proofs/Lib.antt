@@ -17,7 +17,6 @@ pub mod Tabulate
 pub mod Unstored
 pub mod Settled
 pub mod Found
-pub mod Stored
 pub mod Finished
 pub mod SlotWork
 pub mod Heir

@@ -2,6 +2,7 @@
 pub mod Answers
 pub mod Maxima
 pub mod Sums
+pub mod Filled
 pub mod Survey
 pub mod Steps
 pub mod Chain

@@ -4,7 +4,7 @@ use mathlib.Core.Path.{_≡_}
 use native.Mathlib.Omega.{arith}
 use borrow.Author.Needs.{needs}
 use Rattle.table.specs.Table.{at}
-use Rattle.locks.proofs.Stored.{Filled, fill-none, fill-next}
+use Rattle.table.proofs.Filled.{Filled, fill-none, fill-next}
 use Rattle.locks.proofs.finish.store_priorities.Statement.{statement}
 use Rattle.locks.proofs.finish.store_priorities.Tie as tie
 

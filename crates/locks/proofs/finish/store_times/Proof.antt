@@ -4,8 +4,8 @@ use mathlib.Core.Path.{_≡_}
 use native.Mathlib.Omega.{arith}
 use borrow.Author.Needs.{needs}
 use Rattle.table.specs.Table.{at}
+use Rattle.table.proofs.Filled.{Filled, fill-none, fill-next}
 use Rattle.locks.specs.Work.{time-in}
-use Rattle.locks.proofs.Stored.{Filled, fill-none, fill-next}
 use Rattle.locks.proofs.finish.store_times.Statement.{statement}
 use Rattle.locks.proofs.finish.store_times.Tie as tie
 

@@ -1,32 +1,24 @@
 -- `table::numbers::numbers` meets its contract. The loop's invariant: each place passed has its slot's number. Assumes nothing.
-use Prim.Native.Nat.{ℕ, _+_, _≤_, _<_, _-_}
-use mathlib.Core.Path.{_≡_, _∙_}
-use mathlib.Core.List.{List}
+use Prim.Native.Nat.{ℕ, _≤_, _<_, _-_}
 use native.Mathlib.Omega.{arith}
 use borrow.Author.Count.{below-more}
 use borrow.Author.Needs.{needs}
-use lib.ListN.{length, set, length-set}
-use lib.Seq.{getD-set-same, getD-set-other}
 use Rattle.table.specs.Table.{at}
 use Rattle.table.specs.Parts.{slot-number}
+use Rattle.table.proofs.Filled.{Filled, fill-none, fill-next}
 use Rattle.table.proofs.numbers.numbers.Statement.{statement}
 use Rattle.table.proofs.numbers.numbers.Tie as tie
 
-stored : (l : List ℕ) (i v : ℕ) (f : ℕ → ℕ) → i < length l → ((k : ℕ) → k < i → at l k ≡ f k) → v ≡ f i → (k : ℕ) → k < i + 1 → at (set l i v) k ≡ f k
-stored l i v f h before e =
-    below-more (λ k. at (set l i v) k ≡ f k) i (λ k lt. getD-set-other l i k v 0 (omega arith) ∙ before k lt) (getD-set-same l i v 0 h ∙ e)
-
 abbrev Inv-loop : tie.InvT-loop
 Inv-loop live priority time all₀ i₀ all i =
-    (i ≤ 32) × (length all ≡ 32)
-    × ((k : ℕ) → k < i → at all k ≡ slot-number (at live k) (at priority k) (at time k))
+    (i ≤ 32) × Filled (λ k. slot-number (at live k) (at priority k) (at time k)) i all
     × ((k : ℕ) → k < i → (at priority k < 256) × (at time k < 65536))
 
 abbrev μ-loop : tie.MeasureT-loop
 μ-loop live priority time all₀ i₀ all i = 32 - i
 
 loop-holds : tie.Need-loop-holds Inv-loop μ-loop
-loop-holds c = search needs
+loop-holds c = (omega arith, fill-none (λ k. slot-number (at (c .args .live .now) k) (at (c .args .priority .now) k) (at (c .args .time .now) k)) _ (search needs), λ k h. absurd (omega arith))
 
 element-copy-out-slot-number : tie.Need-element-copy-out-slot-number Inv-loop μ-loop
 element-copy-out-slot-number c = search needs
@@ -59,12 +51,12 @@ loop-again : tie.Need-loop-again Inv-loop μ-loop
 loop-again c =
     let h = c .before .before .before .before .before in
     let e = c .slot-number .ensures in
-    (omega arith, simp length-set (h .loop .inv .1), stored (h .loop .all) (h .loop .i) _ _ (omega arith) (h .loop .inv .2) (e .0), below-more _ _ (h .loop .inv .3) (e .1, e .2))
+    (omega arith, fill-next _ (h .loop .all) (h .loop .i) _ (omega arith) (h .loop .inv .1) (e .0), below-more _ _ (h .loop .inv .2) (e .1, e .2))
 
 returns : tie.Need-returns Inv-loop μ-loop
 returns c =
     let h = c .before .loop .inv in
-    (λ k l. h .2 k (omega arith), λ k l. h .3 k (omega arith))
+    (λ k l. h .1 .right k (omega arith), λ k l. h .2 k (omega arith))
 
 pub numbers-spec : {M : Type 1} → statement M
 numbers-spec =

@@ -1,4 +1,4 @@
--- Storing numbers, place by place. Assumes nothing.
+-- Filling an array of 32 numbers, place by place. Assumes nothing.
 use Prim.Native.Nat.{ℕ, _+_, _<_}
 use mathlib.Core.Path.{_≡_, _∙_}
 use mathlib.Core.List.{List}
