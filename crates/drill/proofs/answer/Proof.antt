@@ -1,4 +1,5 @@
 -- `drill::answer` meets its contract. Assumes nothing.
+use mathlib.Core.Path.{refl}
 use borrow.Author.Needs.{needs}
 use Rattle.drill.specs.Drill.{answer-line}
 use Rattle.drill.proofs.answer.Statement.{statement}
@@ -18,7 +19,7 @@ unfolding answer-line
 returns c =
     let stepped = c .before .before .before .before .step .ensures in
     let numbered = c .before .before .before .next .ensures in
-    (rw (← stepped, ← numbered), rw (← stepped, ← numbered) (c .before .line .ensures))
+    (rw (← stepped, ← numbered) refl, rw (← stepped, ← numbered) (c .before .line .ensures))
 
 pub answer-spec : {M : Type 1} → statement M
 answer-spec = tie.close (tie.spec step-requires next-requires line-requires returns)

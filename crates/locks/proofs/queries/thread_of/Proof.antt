@@ -1,6 +1,6 @@
 -- `locks::queries::thread_of` meets its contract. Assumes nothing.
 use Prim.Native.Nat.{_<_}
-use mathlib.Core.Path.{_≡_, sym, _∙_}
+use mathlib.Core.Path.{_≡_, refl, sym, _∙_}
 use mathlib.Core.Bool.{true}
 use native.Mathlib.Omega.{arith}
 use borrow.Author.Needs.{needs}
@@ -28,7 +28,7 @@ thread-refused-requires-2 c κs = search needs
 
 returns-2 : tie.Need-returns-2
 unfolding is-live unsound thread-refusals thread-told thread-answer lowest
-returns-2 c = c .thread-refused2 .ensures ∙ rw (found-sound _ (c .before .before .before .check .ensures) (c .before .before .if1 .left), lt-ltb 31 _ (c .before .if2 .taken))
+returns-2 c = c .thread-refused2 .ensures ∙ rw (found-sound _ (c .before .before .before .check .ensures) (c .before .before .if1 .left), lt-ltb 31 _ (c .before .if2 .taken)) refl
 
 element-copy-out-if3 : tie.Need-element-copy-out-if3
 element-copy-out-if3 c = search needs

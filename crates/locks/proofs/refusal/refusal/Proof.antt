@@ -1,5 +1,5 @@
 -- `locks::refusal::refusal` meets its contract, in steps of `proofs/Lowest.antt`. Assumes nothing.
-use mathlib.Core.Path.{_≡_, sym, _∙_}
+use mathlib.Core.Path.{_≡_, refl, sym, _∙_}
 use borrow.Author.Needs.{needs}
 use borrow.Author.Tests.{eq-eqb, ne-eqb}
 use Rattle.locks.specs.Refusing.{record-number}
@@ -35,7 +35,7 @@ returns-3 c t clock live lent running = by-rest t _ lent clock live running (rig
 
 returns-4 : tie.Need-returns-4
 unfolding from-5
-returns-4 c t clock live lent running = by-rest t _ lent clock live running (right (c .before .before .before .before .before)) (rw (ne-eqb _ _ (c .before .before .if2 .left), c .before .if3 .left, c .if4 .taken))
+returns-4 c t clock live lent running = by-rest t _ lent clock live running (right (c .before .before .before .before .before)) (rw (ne-eqb _ _ (c .before .before .if2 .left), c .before .if3 .left, c .if4 .taken) refl)
 
 returns-5 : tie.Need-returns-5
 unfolding from-5
