@@ -24,7 +24,8 @@ use Rattle.locks.proofs.StaysSound.{Right}
 use Rattle.demands.specs.Calls.{Any-table, Any-record, Calls, As-stated}
 use Rattle.demands.specs.Fixed as fixed
 use Rattle.demands.specs.Fixed.{Running-number, Thread-number, Resource-number}
-use Rattle.demands.proofs.Numbers.{number-is, kept}
+use Rattle.demands.proofs.InMemory.{any-shape}
+use Rattle.demands.proofs.Numbers.{stated-number, kept}
 use Rattle.demands.proofs.Queries.{running-is, thread-is, thread-dead, thread-absent, resource-is, resource-absent, running-unsound, thread-unsound, resource-unsound}
 
 -- For any table and any bytes each call ends with an answer: it is a function, proved to give one without a premise. A query gives back numbers and no table.
@@ -38,18 +39,6 @@ pub record Demand-1 (c : Calls) : Type 0 where
   pub running-number : (t : Table) → Any-table t → Running-number t (c .running-of t .number)
   pub thread-number : (t : Table) (th : Thread) → Any-table t → th ≤ 255 → Thread-number t th (c .thread-of t th .number)
   pub resource-number : (t : Table) (cs : Resource) → Any-table t → cs ≤ 255 → Resource-number t cs (c .resource-of t cs .number)
-
--- the arrays of any table have their sizes
-any-shape : {t : Table} → Any-table t → Shape t
-any-shape a = record {
-  live-size = a .live .size;
-  priority-size = a .priority .size;
-  time-size = a .time .size;
-  current-priority-size = a .current-priority .size;
-  current-time-size = a .current-time .size;
-  queue-size = a .queue .size;
-  length-size = a .length .size;
-}
 
 module _ (t : Table) (s : Shape t) where
   -- what holds of a table that isn't sound and of one that is holds of any
@@ -85,13 +74,10 @@ module _ (t : Table) (s : Shape t) where
 -- the calls meet it
 pub demand-1 : (c : Calls) → As-stated c → Demand-1 c
 demand-1 c is = record {
-  step-number = λ t e a b. subst (Given t e) (sym (number t e a b)) (exactly t e (any-shape a));
-  step-fixed = λ t e a b. rw (number t e a b) (given-low t e (lowest (refusals t e)) (exactly t e (any-shape a)));
-  step-kept = λ t e a b n. ap (λ (d : Done). d .table) (is .step t e a b) ∙ kept t e (λ z. n (number t e a b ∙ z));
-  running-number = λ t a. rw (is .running-of t a) (running-fixed t (any-shape a));
-  thread-number = λ t th a h. rw (is .thread-of t th a h) (thread-fixed t (any-shape a) th);
-  resource-number = λ t cs a h. rw (is .resource-of t cs a h) (resource-fixed t (any-shape a) cs);
+  step-number = λ t e a b. subst (Given t e) (sym (stated-number c is t e a b)) (exactly t e (any-shape a));
+  step-fixed = λ t e a b. rw (stated-number c is t e a b) (given-low t e (lowest (refusals t e)) (exactly t e (any-shape a)));
+  step-kept = λ t e a b n. ap (λ (d : Done). d .table) (is .step t e a b tt) ∙ kept t e (λ z. n (stated-number c is t e a b ∙ z));
+  running-number = λ t a. rw (is .running-of t a tt) (running-fixed t (any-shape a));
+  thread-number = λ t th a h. rw (is .thread-of t th a h tt) (thread-fixed t (any-shape a) th);
+  resource-number = λ t cs a h. rw (is .resource-of t cs a h tt) (resource-fixed t (any-shape a) cs);
 }
-  where
-    number : (t : Table) (e : Record) → Any-table t → Any-record e → c .step t e .answer .number ≡ lowest (refusals t e)
-    number t e a b = ap (λ (d : Done). d .answer .number) (is .step t e a b) ∙ number-is t e (any-shape a)

@@ -15,6 +15,7 @@ use Rattle.protocol.specs.Rules.{step, valid}
 use Rattle.protocol.proofs.Kept.{Kept, valid-kept}
 use Rattle.table.specs.declared.Table.{Table}
 use Rattle.table.specs.Table.{Runner}
+use Rattle.table.specs.Sound.{Sound}
 use Rattle.table.specs.Compute.{runner}
 use Rattle.locks.specs.declared.Record.{Record}
 use Rattle.locks.specs.declared.Done.{Done}
@@ -31,7 +32,7 @@ use Rattle.demands.proofs.Queries.{thread-absent, resource-absent, runn
 use Rattle.demands.proofs.Chosen.{heir-chosen}
 use Rattle.demands.proofs.Rules.{admitted-steps, steps-admitted}
 use Rattle.demands.proofs.InMemory.{right-any}
-use Rattle.demands.proofs.Numbers.{number-is, running-is}
+use Rattle.demands.proofs.Numbers.{stated-number, running-is}
 use Rattle.demands.proofs.Reached.{Reached, answers, reached, history-one}
 
 -- What is so after the records es, refused ones included:
@@ -40,6 +41,9 @@ pub record After (c : Calls) (es : List Record) (s : State) : Type 0 where
   pub history : History c es s
   pub only : (s′ : State) → History c es s′ → s′ ≡ s
   pub by-rules : valid s
+  -- the table is sound and a value of its type: so what the paper does not speak of, spare places and sizes, is said too
+  pub sound : Sound (table-after c es)
+  pub memory : Any-table (table-after c es)
   -- the table is what the paper's definitions give for them
   pub table : Shows (table-after c es) s
   -- and so are the queries' answers
@@ -49,8 +53,8 @@ pub record After (c : Calls) (es : List Record) (s : State) : Type 0 where
   pub no-such-thread : (th : Thread) → 31 < th → th ≤ 255 → c .thread-of (table-after c es) th ≡ thread-refused 3
   pub resource-query : (cs : Resource) → cs < 16 → Resource-told s cs (c .resource-of (table-after c es) cs)
   pub no-such-resource : (cs : Resource) → 15 < cs → cs ≤ 255 → c .resource-of (table-after c es) cs ≡ resource-refused 4
-  -- a well-formed record, while fewer than 65,535 events are accepted, is accepted exactly when the paper's rules admit its event
-  pub admits : (e : Record) → Well-formed e → length s < 65535 → (ev : Event) × Writes s e ev × ((number-of c es e ≡ 0) ↔ step s ev)
+  -- a well-formed record, while fewer than 65,535 events are accepted, has an event, and is accepted exactly when the paper's rules admit it
+  pub admits : (e : Record) → Well-formed e → length s < 65535 → ((ev : Event) × Writes s e ev) × ((ev : Event) → Writes s e ev → (number-of c es e ≡ 0) ↔ step s ev)
   -- any record's answer names the running thread of the state afterwards
   pub answer-names : (e : Record) → Any-record e → (s′ : State) → History c (e ∷ es) s′ → Names-running s′ (c .step (table-after c es) e .answer .running)
 
@@ -70,7 +74,7 @@ event-of t s r e w = go (ℕ-discrete (e .kind) 1) (ℕ-discrete (e .kind) 2) (�
     go (no n) (no m) (no l) (no k) = («V» (e .thread) (e .argument) (heir t (wq s (e .argument))), release (omega (arith, w .kind-from, w .kind-to)) (heir-chosen t s (r .agrees) (r .right) (e .argument)))
 
 -- a well-formed record is any record
-well-any : {e : Record} → Well-formed e → Any-record e
+pub well-any : {e : Record} → Well-formed e → Any-record e
 well-any w = record { kind = omega (arith, w .kind-to); thread = omega (arith, w .thread); argument = w .priority; zero = omega (arith, w .fourth) }
 
 module _ (c : Calls) (is : As-stated c) where
@@ -88,7 +92,7 @@ module _ (c : Calls) (is : As-stated c) where
       kept = valid-kept s (r .by-rules)
 
       number : number-of c es e ≡ lowest (refusals t e)
-      number = ap (λ (d : Done). d .answer .number) (answers c is r e (well-any w)) ∙ number-is t e (r .right .0)
+      number = stated-number c is t e (right-any t (r .right)) (well-any w)
 
   -- the step's answer names the running thread of the state that it leads to
   answer-runs : (es : List Record) (s : State) → Reached (table-after c es) s → (e : Record) → Any-record e → (s′ : State) → Reached (table-after c (e ∷ es)) s′ →
@@ -105,14 +109,16 @@ module _ (c : Calls) (is : As-stated c) where
     history = h;
     only = λ s′ h′. history-one c (r .by-rules) h h′;
     by-rules = r .by-rules;
+    sound = r .right .1;
+    memory = memory;
     table = shows t s (r .agrees) kept (r .right);
-    running-query = rw (is .running-of t memory) (running-told t s (r .agrees) kept (r .right));
-    thread-query = λ th l. rw (is .thread-of t th memory (omega (arith, shows t s (r .agrees) kept (r .right) .ids th l))) (thread-told t s (r .agrees) kept (r .right) th l);
-    dead-thread = λ th low n. is .thread-of t th memory (omega arith) ∙ dead-told t s (r .agrees) kept (r .right) th low n;
-    no-such-thread = λ th high small. is .thread-of t th memory small ∙ thread-absent t (r .right) th high;
-    resource-query = λ cs low. rw (is .resource-of t cs memory (omega arith)) (resource-told t s (r .agrees) kept (r .right) cs low);
-    no-such-resource = λ cs high small. is .resource-of t cs memory small ∙ resource-absent t (r .right) cs high;
-    admits = λ e w short. let v = event-of t s r e w in (v .0, v .1, admission es s r e w short (v .0) (v .1));
+    running-query = rw (is .running-of t memory tt) (running-told t s (r .agrees) kept (r .right));
+    thread-query = λ th l. rw (is .thread-of t th memory (omega (arith, shows t s (r .agrees) kept (r .right) .ids th l)) tt) (thread-told t s (r .agrees) kept (r .right) th l);
+    dead-thread = λ th low n. is .thread-of t th memory (omega arith) tt ∙ dead-told t s (r .agrees) kept (r .right) th low n;
+    no-such-thread = λ th high small. is .thread-of t th memory small tt ∙ thread-absent t (r .right) th high;
+    resource-query = λ cs low. rw (is .resource-of t cs memory (omega arith) tt) (resource-told t s (r .agrees) kept (r .right) cs low);
+    no-such-resource = λ cs high small. is .resource-of t cs memory small tt ∙ resource-absent t (r .right) cs high;
+    admits = λ e w short. (event-of t s r e w, admission es s r e w short);
     answer-names = λ e any-e s′ h′. let w = reached c is (e ∷ es) (any-e, any) in
         answer-runs es s r e any-e s′ (subst (λ (x : State). Reached (table-after c (e ∷ es)) x) (sym (history-one c (w .2 .by-rules) (w .1) h′)) (w .2));
   }

@@ -5,7 +5,7 @@
 -- not counted." Assumes nothing.
 use Prim.Native.Nat.{ℕ, _*_, _≤_, _<_}
 use mathlib.Core.Path.{_≡_, sym, ap, subst}
-use mathlib.Core.Logic.{_≢_, ⊎-elim}
+use mathlib.Core.Logic.{_≢_, inl, inr}
 use mathlib.Core.List.{List, [], _∷_, _++_}
 use native.Mathlib.Omega.{arith}
 use Rattle.protocol.specs.Sets.{_∈_, set}
@@ -13,12 +13,13 @@ use Rattle.protocol.specs.Events.{Thread, Event, State, threads, priority, prec
 use Rattle.protocol.specs.Schedule.{cprec, running}
 use Rattle.protocol.specs.Rules.{valid}
 use Rattle.protocol.specs.Demand3.{Moment, holds-or-waits, spares, Premises, calls, calls-of-others, others, Number, Until}
-use Rattle.protocol.proofs.Demand3.{first-sentence, second-sentence}
+use Rattle.protocol.proofs.Demand3.{first-sentence, second-sentence, others-number}
 use Rattle.protocol.proofs.Theorems.{one-cprec}
 use Rattle.table.specs.Table.{stored}
 use Rattle.locks.specs.declared.Record.{Record}
 use Rattle.demands.specs.Calls.{Calls, As-stated}
 use Rattle.demands.specs.Runs.{table-after, Any-records, History, accepted, refused}
+use Rattle.demands.specs.Told.{Names-running}
 use Rattle.demands.proofs.Reached.{history-one}
 use Rattle.demands.proofs.Demand2.{After, demand-2}
 
@@ -34,9 +35,10 @@ pub record Since (c : Calls) (th : Thread) (es es′ : List Record) (s s′ : Li
   -- none of the events since sets th anew or ends it, creates a thread with, or sets one to, a priority above its own
   pub spared : (e : Event) → e ∈ set s′ → spares th (priority th s) e
 
--- the thread that the running query names after the records
-abbrev pub Runs-after : Calls → List Record → Thread → Type 0
-Runs-after c es th = (th < 32) × (c .running-of (table-after c es) .running ≡ th)
+-- the thread that runs after the records, by either call that a kernel can obey: the running query names it, or the answer to the newest record did
+pub data Runs-after (c : Calls) : List Record → Thread → Type 0 where
+  by-query : {es : List Record} {th : Thread} → th < 32 → c .running-of (table-after c es) .running ≡ th → Runs-after c es th
+  by-answer : {es : List Record} {e : Record} {th : Thread} → th < 32 → c .step (table-after c es) e .answer .running ≡ th → Runs-after c (e ∷ es) th
 
 pub record Demand-3 (c : Calls) : Type 0 where
   -- the first sentence, of any other thread that runs; the precedence is both the paper's and the stored one
@@ -50,6 +52,8 @@ pub record Demand-3 (c : Calls) : Type 0 where
       calls-of-others th s′ ≤ n * K
   -- whatever the records, there are such events: those accepted since are added to those before
   pub events : (es es′ : List Record) (s : State) → Any-records (es′ ++ es) → History c es s → (s′ : List Event) × History c (es′ ++ es) (s′ ++ s)
+  -- and at every moment there is the number n of the others that hold or wait
+  pub number : (th : Thread) (es : List Record) (s : State) → Any-records es → History c es s → (n : ℕ) × Number (others s th) n
 
 -- the events accepted since stand before those of the moment
 added : (c : Calls) (es es′ : List Record) {s S : State} → valid s → History c es s → History c (es′ ++ es) S → (s′ : List Event) × (S ≡ s′ ++ s)
@@ -61,10 +65,20 @@ any-before : (es es′ : List Record) → Any-records (es′ ++ es) → Any-reco
 any-before es [] any = any
 any-before es (e ∷ es′) any = any-before es es′ (any .1)
 
+-- who is named as running, and is one of the 32, runs
+who-named : (s : State) {r th : ℕ} → th < 32 → r ≡ th → Names-running s r → th ∈ running s
+who-named s low q (inl w) = subst (λ (x : Thread). x ∈ running s) q (w .1)
+who-named s low q (inr w) = absurd (omega (arith, w .0))
+
 module _ (c : Calls) (is : As-stated c) where
   -- all that demand 2 says, for the events at hand
   after : (es : List Record) (s : State) → Any-records es → History c es s → After c es s
   after es s any h = let w = demand-2 c is es any in subst (After c es) (sym (w .1 .only s h)) (w .1)
+
+  -- who runs after the records is the paper's running thread
+  named-runs : {es : List Record} {s : State} {th : Thread} → Any-records es → History c es s → Runs-after c es th → th ∈ running s
+  named-runs {es} {s} any h (by-query low q) = who-named s low q (after es s any h .running-query .1)
+  named-runs {s = s} any h (by-answer {es} {e} low q) = who-named s low q (demand-2 c is es (any .1) .1 .answer-names e (any .0) s h)
 
   module _ {th : Thread} {es es′ : List Record} {s s′ : List Event} (p : Since c th es es′ s s′) where
     now : After c (es′ ++ es) (s′ ++ s)
@@ -73,10 +87,6 @@ module _ (c : Calls) (is : As-stated c) where
     -- what protocol's theorem asks for
     premises : Premises s th s′
     premises = record { by-rules = now .by-rules; live = p .live; highest = p .highest; spared = p .spared }
-
-    -- whom the query names, runs
-    named-runs : (th′ : Thread) → Runs-after c (es′ ++ es) th′ → th′ ∈ running (s′ ++ s)
-    named-runs th′ (low, q) = ⊎-elim (λ w. subst (λ (x : Thread). x ∈ running (s′ ++ s)) q (w .1)) (λ w. absurd (omega (arith, w .0))) (now .running-query .1)
 
   events-since : (es es′ : List Record) (s : State) → Any-records (es′ ++ es) → History c es s → (s′ : List Event) × History c (es′ ++ es) (s′ ++ s)
   events-since es es′ s any h =
@@ -88,9 +98,10 @@ module _ (c : Calls) (is : As-stated c) where
 pub demand-3 : (c : Calls) → As-stated c → Demand-3 c
 demand-3 c is = record {
   who-runs = λ th es es′ s s′ p th′ q ne.
-      let run = named-runs c is p th′ q in
+      let run = named-runs c is (p .bytes) (p .later) q in
       let w = first-sentence s th s′ (premises c is p) th′ run ne in
       (w .0, w .1, w .2, one-cprec (s′ ++ s) (now c is p .by-rules) th′ (stored (table-after c (es′ ++ es)) th′) (prec th s) (now c is p .table .current th′ (run .among .0)) (w .2));
   how-many = λ th es es′ s s′ p. second-sentence s th s′ (premises c is p);
   events = events-since c is;
+  number = λ th es s any h. others-number s th (after c is es s any h .by-rules);
 }

@@ -1,4 +1,4 @@
--- A sound table whose arrays have their sizes is one that memory can hold. Assumes nothing.
+-- A sound table whose arrays have their sizes is one that memory can hold, and in memory they have their sizes. Assumes nothing.
 use Prim.Native.Nat.{ℕ, _/_, _%_, _≤_, _<_}
 use mathlib.Core.Path.{refl, ap, subst}
 use native.Mathlib.Decide.{ℕ-discrete, decLt}
@@ -9,6 +9,7 @@ use Rattle.protocol.proofs.Runner.{source}
 use Rattle.table.specs.declared.Table.{Table}
 use Rattle.table.specs.Table.{at, live, own, stored}
 use Rattle.table.specs.Parts.{entry}
+use Rattle.table.specs.Checked.{Shape}
 use Rattle.table.proofs.Sums.{beyond}
 use Rattle.table.proofs.Rows.{live-low, in-queue}
 use Rattle.table.proofs.Soundness.{sound-orderly}
@@ -57,3 +58,15 @@ module _ (t : Table) (r : Right t) where
     queue = record { size = r .0 .queue-size; in-range = queue-fits };
     length = record { size = r .0 .length-size; in-range = λ cs. omega (arith, r .1 .queues-right .lengths cs) };
   }
+
+-- the arrays of any table have their sizes
+pub any-shape : {t : Table} → Any-table t → Shape t
+any-shape a = record {
+  live-size = a .live .size;
+  priority-size = a .priority .size;
+  time-size = a .time .size;
+  current-priority-size = a .current-priority .size;
+  current-time-size = a .current-time .size;
+  queue-size = a .queue .size;
+  length-size = a .length .size;
+}

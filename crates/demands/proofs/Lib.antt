@@ -15,3 +15,6 @@ pub mod Demand1
 pub mod Demand2
 pub mod Demand3
 pub mod Unique
+-- That the demands speak of what the calls take, and of functions that there are.
+pub mod Types
+pub mod TheCalls

@@ -16,6 +16,8 @@ use Rattle.locks.proofs.Admitted.{Admitted, admitted}
 use Rattle.locks.proofs.Answered.{refused-is, refused-runs, let-through}
 use Rattle.locks.proofs.Applied.{applied-cases}
 use Rattle.locks.proofs.StaysSound.{Right}
+use Rattle.demands.specs.Calls.{Any-table, Any-record, Calls, As-stated}
+use Rattle.demands.proofs.InMemory.{any-shape}
 
 module _ (t : Table) (e : Record) where
   -- a refused record gives back the very table
@@ -32,7 +34,7 @@ module _ (t : Table) (e : Record) where
   applied-0 m = applied-cases t e (λ d. d .answer .number ≡ 0) (m .kind-from) (m .kind-to) (λ _. refl) (λ _. refl) (λ _. refl) (λ _. refl) (λ _. refl)
 
   -- the number is the lowest that applies
-  pub number-is : Shape t → answerOf t e .answer .number ≡ lowest (refusals t e)
+  number-is : Shape t → answerOf t e .answer .number ≡ lowest (refusals t e)
   unfolding refused
   number-is s = go (ℕ-discrete (lowest (refusals t e)) 0)
     where
@@ -51,3 +53,7 @@ module _ (t : Table) (e : Record) where
       go : Dec (lowest (refusals t e) ≡ 0) → answerOf t e .answer .running ≡ runner (answerOf t e .table)
       go (yes z) = ap (λ (d : Done). d .answer .running) (let-through t e z) ∙ applied-runs (passed (r .0) z) ∙ sym (ap (λ (d : Done). runner (d .table)) (let-through t e z))
       go (no n) = ap (λ (d : Done). d .answer .running) (refused-is t e n) ∙ refused-runs t e (r .0) (r .1) ∙ sym (ap runner (kept n))
+
+-- the number that a step gives which does what the contract says
+pub stated-number : (c : Calls) → As-stated c → (t : Table) (e : Record) → Any-table t → Any-record e → c .step t e .answer .number ≡ lowest (refusals t e)
+stated-number c is t e a b = ap (λ (d : Done). d .answer .number) (is .step t e a b tt) ∙ number-is t e (any-shape a)

@@ -19,7 +19,7 @@ use Rattle.demands.specs.Calls.{Any-record, Calls, As-stated}
 use Rattle.demands.specs.Runs.{table-after, number-of, Any-records, Writes, History, none-yet, accepted, refused}
 use Rattle.demands.proofs.Agrees.{Agrees}
 use Rattle.demands.proofs.InMemory.{right-any}
-use Rattle.demands.proofs.Numbers.{number-is, kept}
+use Rattle.demands.proofs.Numbers.{stated-number, kept}
 use Rattle.demands.proofs.Chosen.{writes-one}
 use Rattle.demands.proofs.Carried.{carried}
 use Rattle.demands.proofs.Rules.{admitted-steps}
@@ -55,7 +55,7 @@ accepted-reached t e s r any z = (
 module _ (c : Calls) (is : As-stated c) where
   -- the step's answer on a table that is reached
   pub answers : {t : Table} {s : State} → Reached t s → (e : Record) → Any-record e → c .step t e ≡ answerOf t e
-  answers {t} r e any = is .step t e (right-any t (r .right)) any
+  answers {t} r e any = is .step t e (right-any t (r .right)) any tt
 
   -- one record more
   one-more : (es : List Record) (s : State) → History c es s → Reached (table-after c es) s → (e : Record) → Any-record e → (s′ : State) × History c (e ∷ es) s′ × Reached (table-after c (e ∷ es)) s′
@@ -65,7 +65,7 @@ module _ (c : Calls) (is : As-stated c) where
       t = table-after c es
 
       number : number-of c es e ≡ lowest (refusals t e)
-      number = ap (λ (d : Done). d .answer .number) (answers r e any) ∙ number-is t e (r .right .0)
+      number = stated-number c is t e (right-any t (r .right)) any
 
       go : Dec (lowest (refusals t e) ≡ 0) → (s′ : State) × History c (e ∷ es) s′ × Reached (c .step t e .table) s′
       go (yes z) = let w = accepted-reached t e s r any z in

@@ -2,17 +2,18 @@
 -- Assumes nothing.
 use Prim.Native.Nat.{ℕ, _<_}
 use mathlib.Core.Path.{_≡_, refl, sym, ap, subst, _∙_}
-use mathlib.Core.Bool.{Bool, true}
-use mathlib.Core.Logic.{_≢_, inl, inr, ⊎-elim, _↔_}
+use mathlib.Core.Bool.{Bool}
+use mathlib.Core.Logic.{_≢_, inl, inr, ⊎-elim}
 use mathlib.Core.List.{[], _∷_}
 use native.Mathlib.Decide.{ℕ-discrete}
 use native.Mathlib.Omega.{arith}
-use Rattle.protocol.specs.Events.{Event, Create, State}
+use Rattle.protocol.specs.Events.{Create, State}
 use Rattle.protocol.specs.Rules.{step, create as create-step}
 use Rattle.protocol.proofs.Theorems.{some-runs}
 use Rattle.table.specs.declared.Table.{Table}
 use Rattle.table.specs.Table.{empty}
-use Rattle.table.specs.Sound.{Sound}
+use Rattle.table.proofs.Table.empty.Reads as empty-table
+use Rattle.table.proofs.Table.sound.Reads as sound
 use Rattle.table.proofs.Reflect.{same-test}
 use Rattle.locks.specs.declared.Record.{Record}
 use Rattle.locks.specs.declared.Answer.{Answer}
@@ -22,47 +23,68 @@ use Rattle.locks.specs.declared.queries.ThreadAnswer.{ThreadAnswer}
 use Rattle.locks.specs.declared.queries.ResourceAnswer.{ResourceAnswer}
 use Rattle.locks.specs.Refusals.{refusals, lowest}
 use Rattle.locks.specs.Applies.{no-kind}
-use Rattle.locks.specs.Answers.{accepted as answer-accepted, refused as answer-refused, applied, answerOf}
 use Rattle.locks.specs.Queries.{running-answer, thread-answer, resource-answer}
+use Rattle.locks.specs.Answers.{accepted as answer-accepted, refused as answer-refused, applied, answerOf}
 use Rattle.locks.proofs.Exactly.{exactly, given-none}
 use Rattle.locks.proofs.Answered.{refused-is, let-through}
-use Rattle.demands.specs.Calls.{Any-table, Any-record, Calls, Typed, As-stated}
-use Rattle.demands.specs.Runs.{table-after, number-of, Writes, create, exit, set-anew, request, release, History, none-yet, accepted, Well-formed}
+use Rattle.demands.specs.Calls.{Any-table, Any-record, Calls, Step-says, Running-says, Thread-says, Resource-says, As-stated}
+use Rattle.demands.specs.Runs.{table-after, number-of, Writes, create, History, none-yet, accepted, Well-formed}
 use Rattle.demands.specs.Told.{Names-running}
 use Rattle.demands.proofs.InMemory.{right-any}
-use Rattle.demands.proofs.Numbers.{number-is}
+use Rattle.demands.proofs.Numbers.{stated-number}
 use Rattle.demands.proofs.Reached.{start-reached}
-use Rattle.demands.proofs.Demand2.{After, Demand-2, demand-2}
+use Rattle.demands.proofs.Demand2.{After, Demand-2, well-any, demand-2}
 
 -- For one input, no two results satisfy the statement of
 
 one : {A : Type 0} {x : A} (a b : A) → a ≡ x → b ≡ x → a ≡ b
 one a b p q = p ∙ sym q
 
--- the step: number, running thread, count and the whole table
-pub step-one : (t : Table) (e : Record) (d d′ : Done) → d ≡ answerOf t e → d′ ≡ answerOf t e → d ≡ d′
-step-one t e = one
+both : {A B : Type 0} {x : A} {y : B} (a a′ : A) (b b′ : B) → (a ≡ x) × (b ≡ y) → (a′ ≡ x) × (b′ ≡ y) → (a ≡ a′) × (b ≡ b′)
+both a a′ b b′ p q = (one a a′ (p .0) (q .0), one b b′ (p .1) (q .1))
 
--- the step of a lent table: the answer, and the table afterwards
-pub lent-one : (t : Table) (e : Record) (r r′ : Answer) (u u′ : Table) → (r ≡ answerOf t e .answer) × (u ≡ answerOf t e .table) → (r′ ≡ answerOf t e .answer) × (u′ ≡ answerOf t e .table) → (r ≡ r′) × (u ≡ u′)
-lent-one t e r r′ u u′ p q = (one r r′ (p .0) (q .0), one u u′ (p .1) (q .1))
+-- the step: number, running thread, count and the whole table
+pub step-one : (t : Table) (e : Record) (d d′ : Done) → Step-says t e d → Step-says t e d′ → d ≡ d′
+step-one t e d d′ p q = one d d′ (p tt) (q tt)
 
 -- the three queries
-pub running-one : (t : Table) (a a′ : RunningAnswer) → a ≡ running-answer t → a′ ≡ running-answer t → a ≡ a′
-running-one t = one
+pub running-one : (t : Table) (a a′ : RunningAnswer) → Running-says t a → Running-says t a′ → a ≡ a′
+running-one t a a′ p q = one a a′ (p tt) (q tt)
 
-pub thread-one : (t : Table) (th : ℕ) (a a′ : ThreadAnswer) → a ≡ thread-answer t th → a′ ≡ thread-answer t th → a ≡ a′
-thread-one t th = one
+pub thread-one : (t : Table) (th : ℕ) (a a′ : ThreadAnswer) → Thread-says t th a → Thread-says t th a′ → a ≡ a′
+thread-one t th a a′ p q = one a a′ (p tt) (q tt)
 
-pub resource-one : (t : Table) (cs : ℕ) (a a′ : ResourceAnswer) → a ≡ resource-answer t cs → a′ ≡ resource-answer t cs → a ≡ a′
-resource-one t cs = one
+pub resource-one : (t : Table) (cs : ℕ) (a a′ : ResourceAnswer) → Resource-says t cs a → Resource-says t cs a′ → a ≡ a′
+resource-one t cs a a′ p q = one a a′ (p tt) (q tt)
 
--- the empty table, and the test whether a table is sound
-pub empty-one : (t t′ : Table) → t ≡ empty → t′ ≡ empty → t ≡ t′
-empty-one = one
+-- the empty table, and the test whether a table is sound, of which the contracts (table/src/lib.rt, table/src/check.rt) say
+abbrev pub Empty-says : Table → Type 0
+Empty-says t = empty-table.Asked tt tt → empty-table.Learnt tt tt t tt
 
-pub sound-one : (t : Table) (b b′ : Bool) → (b ≡ true) ↔ Sound t → (b′ ≡ true) ↔ Sound t → b ≡ b′
-sound-one t b b′ = same-test
+abbrev pub Sound-says : Table → Bool → Type 0
+Sound-says t b = sound.Asked tt (t, tt) → sound.Learnt tt (t, tt) b (t, tt)
+
+pub empty-one : (t t′ : Table) → Empty-says t → Empty-says t′ → t ≡ t′
+empty-one t t′ p q = one t t′ (p tt) (q tt)
+
+pub sound-one : (t : Table) (b b′ : Bool) → Sound-says t b → Sound-says t b′ → b ≡ b′
+sound-one t b b′ p q = same-test (p tt) (q tt)
+
+-- the calls that are lent the table t and leave u behind; `demands` does not stand on crate `kernel`, so what its contracts say (kernel/src/lib.rt) is written out here
+pub lent-step-one : (t : Table) (e : Record) (r r′ : Answer) (u u′ : Table) → (r ≡ answerOf t e .answer) × (u ≡ answerOf t e .table) → (r′ ≡ answerOf t e .answer) × (u′ ≡ answerOf t e .table) → (r ≡ r′) × (u ≡ u′)
+lent-step-one t e = both
+
+pub lent-empty-one : (u u′ : Table) → u ≡ empty → u′ ≡ empty → u ≡ u′
+lent-empty-one = one
+
+pub lent-running-one : (t : Table) (r r′ : RunningAnswer) (u u′ : Table) → (r ≡ running-answer t) × (u ≡ t) → (r′ ≡ running-answer t) × (u′ ≡ t) → (r ≡ r′) × (u ≡ u′)
+lent-running-one t = both
+
+pub lent-thread-one : (t : Table) (th : ℕ) (r r′ : ThreadAnswer) (u u′ : Table) → (r ≡ thread-answer t th) × (u ≡ t) → (r′ ≡ thread-answer t th) × (u′ ≡ t) → (r ≡ r′) × (u ≡ u′)
+lent-thread-one t th = both
+
+pub lent-resource-one : (t : Table) (cs : ℕ) (r r′ : ResourceAnswer) (u u′ : Table) → (r ≡ resource-answer t cs) × (u ≡ t) → (r′ ≡ resource-answer t cs) × (u′ ≡ t) → (r ≡ r′) × (u ≡ u′)
+lent-resource-one t cs = both
 
 -- The wrong schedulers, each any functions in the places of the calls, for any table and any record.
 
@@ -77,9 +99,9 @@ Names-one c r = (t : Table) (e : Record) → Any-table t → Any-record e → c 
 abbrev pub Query-names-one : Calls → ℕ → Type 0
 Query-names-one c r = (t : Table) → Any-table t → c .running-of t .running ≡ r
 
--- One that accepts and touches nothing does not.
+-- One that accepts and touches nothing does not, whatever it answers.
 abbrev pub Touches-nothing : Calls → Type 0
-Touches-nothing c = (t : Table) (e : Record) → Any-table t → Any-record e → (c .step t e .answer .number ≡ 0) × (c .step t e .table ≡ t)
+Touches-nothing c = (t : Table) (e : Record) → Any-table t → Any-record e → c .step t e .table ≡ t
 
 -- One that, whatever it does with the first event, afterwards only answers 0 does not.
 abbrev pub Then-answers-0 : Calls → Type 0
@@ -105,17 +127,12 @@ unfolding creates
 well x low = record { kind-from = omega arith; kind-to = omega arith; thread = low; resource = ⊎-elim (λ k. absurd (omega arith)) (λ k. absurd (omega arith)); priority = omega arith; exit-plain = λ k. refl; fourth = refl }
 
 any : (x : ℕ) → x < 32 → Any-record (creates x)
-unfolding creates
-any x low = record { kind = omega arith; thread = omega arith; argument = omega arith; zero = omega arith }
+any x low = well-any (well x low)
 
 -- its event is a Create
-is-create : (s : State) (x : ℕ) {ev : Event} → Writes s (creates x) ev → ev ≡ Create x 0
+writes : (s : State) (x : ℕ) → Writes s (creates x) (Create x 0)
 unfolding creates
-is-create s x (create k) = refl
-is-create s x (exit k) = absurd (omega arith)
-is-create s x (set-anew k) = absurd (omega arith)
-is-create s x (request k) = absurd (omega arith)
-is-create s x (release k f) = absurd (omega arith)
+writes s x = create refl
 
 module _ (c : Calls) (d : Demand-2 c) where
   -- before any record
@@ -125,11 +142,10 @@ module _ (c : Calls) (d : Demand-2 c) where
   module _ (x : ℕ) (low : x < 32) where
     -- the first Create is accepted
     first-accepted : number-of c [] (creates x) ≡ 0
-    first-accepted = let w = at-first .admits (creates x) (well x low) (omega arith) in w .2 .1 (subst (step []) (sym (is-create [] x (w .1))) (create-step (λ l. l)))
+    first-accepted = at-first .admits (creates x) (well x low) (omega arith) .1 (Create x 0) (writes [] x) .1 (create-step (λ l. l))
 
     first-history : History c (creates x ∷ []) (Create x 0 ∷ [])
-    unfolding creates
-    first-history = accepted none-yet first-accepted (create refl)
+    first-history = accepted none-yet first-accepted (writes [] x)
 
     after-first : After c (creates x ∷ []) (Create x 0 ∷ [])
     after-first = let w = d (creates x ∷ []) (any x low, tt) in subst (After c (creates x ∷ [])) (sym (w .1 .only (Create x 0 ∷ []) first-history)) (w .1)
@@ -156,36 +172,33 @@ pub names-one : (c : Calls) (r : ℕ) → Names-one c r → ¬ Demand-2 c
 names-one c r wrong d = let o = other r in
     o .2 (sym (wrong empty (creates (o .0)) memory (any (o .0) (o .1))) ∙ x-is-named c d (o .0) (o .1) (c .step empty (creates (o .0)) .answer .running) (at-first c d .answer-names (creates (o .0)) (any (o .0) (o .1)) (Create (o .0) 0 ∷ []) (first-history c d (o .0) (o .1))))
 
-pub query-names-one : (c : Calls) (r : ℕ) → Typed c → Query-names-one c r → ¬ Demand-2 c
-query-names-one c r typed wrong d = let o = other r in let t = table-after c (creates (o .0) ∷ []) in
-    o .2 (sym (wrong t (typed empty (creates (o .0)) memory (any (o .0) (o .1)))) ∙ x-is-named c d (o .0) (o .1) (c .running-of t .running) (after-first c d (o .0) (o .1) .running-query .1))
+pub query-names-one : (c : Calls) (r : ℕ) → Query-names-one c r → ¬ Demand-2 c
+query-names-one c r wrong d = let o = other r in let t = table-after c (creates (o .0) ∷ []) in let now = after-first c d (o .0) (o .1) in
+    o .2 (sym (wrong t (now .memory)) ∙ x-is-named c d (o .0) (o .1) (c .running-of t .running) (now .running-query .1))
 
 -- at the next query: of one table it cannot say that nobody runs, and that somebody does
 pub touches-nothing : (c : Calls) → Touches-nothing c → ¬ Demand-2 c
 touches-nothing c wrong d = ⊎-elim (λ w. w .1 .among .0) (λ w. absurd (omega (arith, w .0, then-0))) (at-first c d .running-query .1)
   where
     then-0 : c .running-of empty .running ≡ 0
-    then-0 = x-is-named c d 0 (omega arith) (c .running-of empty .running) (subst (λ (t : Table). Names-running (Create 0 0 ∷ []) (c .running-of t .running)) (wrong empty (creates 0) memory (any 0 (omega arith)) .1) (after-first c d 0 (omega arith) .running-query .1))
+    then-0 = x-is-named c d 0 (omega arith) (c .running-of empty .running) (subst (λ (t : Table). Names-running (Create 0 0 ∷ []) (c .running-of t .running)) (wrong empty (creates 0) memory (any 0 (omega arith))) (after-first c d 0 (omega arith) .running-query .1))
 
 -- at the second event, another Create of the same thread
-pub then-answers-0 : (c : Calls) → Typed c → Then-answers-0 c → ¬ Demand-2 c
-then-answers-0 c typed wrong d = twice (subst (step (Create 0 0 ∷ [])) (is-create (Create 0 0 ∷ []) 0 (w .1)) (w .2 .0 (wrong t (creates 0) (typed empty (creates 0) memory (any 0 (omega arith))) (any 0 (omega arith)) not-empty)))
+pub then-answers-0 : (c : Calls) → Then-answers-0 c → ¬ Demand-2 c
+then-answers-0 c wrong d = twice (now .admits (creates 0) (well 0 (omega arith)) (omega arith) .1 (Create 0 0) (writes (Create 0 0 ∷ []) 0) .0 (wrong (table-after c (creates 0 ∷ [])) (creates 0) (now .memory) (any 0 (omega arith)) not-empty))
   where
-    t : Table
-    t = table-after c (creates 0 ∷ [])
+    now : After c (creates 0 ∷ []) (Create 0 0 ∷ [])
+    now = after-first c d 0 (omega arith)
 
-    not-empty : t ≢ empty
-    not-empty e = absurd (omega (arith, after-first c d 0 (omega arith) .table .clock, ap (λ (u : Table). u .clock) e))
-
-    w : (ev : Event) × Writes (Create 0 0 ∷ []) (creates 0) ev × ((number-of c (creates 0 ∷ []) (creates 0) ≡ 0) ↔ step (Create 0 0 ∷ []) ev)
-    w = after-first c d 0 (omega arith) .admits (creates 0) (well 0 (omega arith)) (omega arith)
+    not-empty : table-after c (creates 0 ∷ []) ≢ empty
+    not-empty e = absurd (omega (arith, now .table .clock, ap (λ (u : Table). u .clock) e))
 
     twice : ¬ step (Create 0 0 ∷ []) (Create 0 0)
     twice (create-step dead) = dead (inl refl)
 
 -- at the input where it is another
 pub invents-a-count : (c : Calls) → Invents-a-count c → ¬ As-stated c
-invents-a-count c (t, e, any-t, any-e, wrong) is = wrong (ap (λ (x : Done). x .answer .count) (is .step t e any-t any-e))
+invents-a-count c (t, e, any-t, any-e, wrong) is = wrong (ap (λ (x : Done). x .answer .count) (is .step t e any-t any-e tt))
 
 -- a record of no kind
 no-kind-at-all : Record
@@ -196,20 +209,17 @@ unfolding no-kind-at-all
 of-no-kind = record { kind = omega arith; thread = omega arith; argument = omega arith; zero = omega arith }
 
 module _ (c : Calls) (is : As-stated c) where
-  number : (e : Record) → Any-record e → c .step empty e .answer .number ≡ lowest (refusals empty e)
-  number e a = ap (λ (x : Done). x .answer .number) (is .step empty e memory a) ∙ number-is empty e (start-reached .right .0)
-
   -- an accepted Create counts 1
   create-counts : c .step empty (creates 0) .answer .count ≡ 1
   unfolding creates applied answer-accepted
   create-counts = let a = any 0 (omega arith) in
-      ap (λ (x : Done). x .answer .count) (is .step empty (creates 0) memory a ∙ let-through empty (creates 0) (sym (number (creates 0) a) ∙ first-accepted c (demand-2 c is) 0 (omega arith)))
+      ap (λ (x : Done). x .answer .count) (is .step empty (creates 0) memory a tt ∙ let-through empty (creates 0) (sym (stated-number c is empty (creates 0) memory a) ∙ first-accepted c (demand-2 c is) 0 (omega arith)))
 
   -- a refusal counts 0
   refusal-counts : c .step empty no-kind-at-all .answer .count ≡ 0
   unfolding no-kind-at-all answer-refused
   refusal-counts = ap (λ (x : Done). x .answer .count)
-      (is .step empty no-kind-at-all memory of-no-kind ∙ refused-is empty no-kind-at-all
+      (is .step empty no-kind-at-all memory of-no-kind tt ∙ refused-is empty no-kind-at-all
       (λ z. given-none empty no-kind-at-all (lowest (refusals empty no-kind-at-all)) (exactly empty no-kind-at-all (start-reached .right .0)) z 2 (no-kind (λ w. absurd (omega (arith, w .0))))))
 
 -- at the first Create, or at the first refusal

@@ -1,4 +1,4 @@
--- The public calls: any functions in their places, and what the calls that the kernel links are proved to ensure. Assumes nothing.
+-- The public calls: any functions in their places, and what the contracts of the calls that the kernel links say. Assumes nothing.
 use Prim.Native.Nat.{ℕ, _≤_}
 use mathlib.Core.Path.{_≡_}
 use mathlib.Core.List.{List}
@@ -10,8 +10,10 @@ use Rattle.locks.specs.declared.Done.{Done}
 use Rattle.locks.specs.declared.queries.RunningAnswer.{RunningAnswer}
 use Rattle.locks.specs.declared.queries.ThreadAnswer.{ThreadAnswer}
 use Rattle.locks.specs.declared.queries.ResourceAnswer.{ResourceAnswer}
-use Rattle.locks.specs.Answers.{answerOf}
-use Rattle.locks.specs.Queries.{running-answer, thread-answer, resource-answer}
+use Rattle.locks.proofs.step.step.Reads as step
+use Rattle.locks.proofs.queries.running_of.Reads as running-of
+use Rattle.locks.proofs.queries.thread_of.Reads as thread-of
+use Rattle.locks.proofs.queries.resource_of.Reads as resource-of
 
 -- an array of n numbers, none above the highest that its type can hold
 pub record Array (n highest : ℕ) (xs : List ℕ) : Type 0 where
@@ -43,13 +45,28 @@ pub record Calls : Type 0 where
   pub thread-of : Table → ℕ → ThreadAnswer
   pub resource-of : Table → ℕ → ResourceAnswer
 
--- They are of the calls' types: what the step gives back is a table.
-abbrev pub Typed : Calls → Type 0
-Typed c = (t : Table) (e : Record) → Any-table t → Any-record e → Any-table (c .step t e .table)
+-- What the contract of a public call says of arguments and a result: where what it asks holds, what it lets a caller learn. `Asked` and `Learnt` are read off the clauses themselves
+-- (locks/src/step.rt, locks/src/queries.rt). They take the lifetimes, none here, then the arguments as a row that ends with `tt`, the result, and the arguments as they are after the call.
 
--- They do what the public calls ensure, word for word (the clauses stand in locks/src/step.rt and locks/src/queries.rt): for any table and any bytes.
+-- the step
+abbrev pub Step-says : Table → Record → Done → Type 0
+Step-says t e d = step.Asked tt (t, (e, tt)) → step.Learnt tt (t, (e, tt)) d (t, (e, tt))
+
+-- the running query
+abbrev pub Running-says : Table → RunningAnswer → Type 0
+Running-says t r = running-of.Asked tt (t, tt) → running-of.Learnt tt (t, tt) r (t, tt)
+
+-- the thread query
+abbrev pub Thread-says : Table → ℕ → ThreadAnswer → Type 0
+Thread-says t thread r = thread-of.Asked tt (t, (thread, tt)) → thread-of.Learnt tt (t, (thread, tt)) r (t, (thread, tt))
+
+-- the resource query
+abbrev pub Resource-says : Table → ℕ → ResourceAnswer → Type 0
+Resource-says t resource r = resource-of.Asked tt (t, (resource, tt)) → resource-of.Learnt tt (t, (resource, tt)) r (t, (resource, tt))
+
+-- The four functions do what the contracts of the public calls say, for any table and any bytes.
 pub record As-stated (c : Calls) : Type 0 where
-  pub step : (t : Table) (e : Record) → Any-table t → Any-record e → c .step t e ≡ answerOf t e
-  pub running-of : (t : Table) → Any-table t → c .running-of t ≡ running-answer t
-  pub thread-of : (t : Table) (thread : ℕ) → Any-table t → thread ≤ 255 → c .thread-of t thread ≡ thread-answer t thread
-  pub resource-of : (t : Table) (resource : ℕ) → Any-table t → resource ≤ 255 → c .resource-of t resource ≡ resource-answer t resource
+  pub step : (t : Table) (e : Record) → Any-table t → Any-record e → Step-says t e (c .step t e)
+  pub running-of : (t : Table) → Any-table t → Running-says t (c .running-of t)
+  pub thread-of : (t : Table) (thread : ℕ) → Any-table t → thread ≤ 255 → Thread-says t thread (c .thread-of t thread)
+  pub resource-of : (t : Table) (resource : ℕ) → Any-table t → resource ≤ 255 → Resource-says t resource (c .resource-of t resource)

@@ -1,4 +1,5 @@
--- What a reader has to believe of the calls, in document 01's order.
+-- What the calls answer, in document 01's order. A reader has to believe Applies and the two refused answers of Queries for the demands, Count and Answers for the count;
+-- theorems tie the rest to these.
 pub mod Events
 pub mod Count
 pub mod Refusals
