@@ -39,7 +39,7 @@ module _ (t : Table) {b : Bool} {waits owns currents : List ℕ} (k : Checked-ri
     numbered = record { owns-are = k .owns-right; currents-are = k .currents-right; times-fit = time-fits t (k .shape) (k .passed e); current-times-fit = current-time-fits t (k .shape) (k .passed e) }
 
     -- the running thread, by numbers
-    pub runner-is : highest-ready (t .live) waits currents 32 ≡ runner t
-    runner-is = one-runner t (k .shape) (k .passed e) (highest-ready (t .live) waits currents 32) (runner t)
+    pub runner-is : highest-ready waits currents 32 ≡ runner t
+    runner-is = one-runner t (k .shape) (k .passed e) (highest-ready waits currents 32) (runner t)
         (sound-runner t (k .shape) (k .passed e) owns currents numbered waits (k .waits-right e))
         (runs t (k .shape) (k .passed e))

@@ -94,6 +94,6 @@ module _ (t : Table) (shape : Shape t) (s : Sound (settled t)) {waits currents :
       here th h (no n) = dead-number th h n ∙ rw (ne-eqb (at (t .live) th) 1 n)
 
   -- so the highest ready thread by numbers is its running thread
-  pub runner-settled : highest-ready (t .live) waits currents 32 ≡ runner (settled t)
+  pub runner-settled : highest-ready waits currents 32 ≡ runner (settled t)
   unfolding settled
   runner-settled = runner-is (settled t) checked refl

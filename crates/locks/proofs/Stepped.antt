@@ -48,7 +48,7 @@ module _ (t : Table) (e : Record) {b : Bool} {waits owns currents : List ℕ} (k
     pub lent : Lent t (t .queue) (t .length) waits
     lent = record { queue-is = refl; length-is = refl; shape = k .shape; sound = k .passed s; waits-right = waits-is t k s }
 
-    pub runs : {r : ℕ} → r ≡ highest-ready (t .live) waits currents 32 → r ≡ runner t
+    pub runs : {r : ℕ} → r ≡ highest-ready waits currents 32 → r ≡ runner t
     runs q = q ∙ runner-is t k s
 
     pub judged-sound : {n r : ℕ} → n ≡ lowest (refusals t e) → r ≡ runner t → a ≡ record { number = n; running = r; count = 0 } → Judged t e b a
@@ -148,12 +148,12 @@ module _ {waiting owns currents : List ℕ} (t : Table) (e : Record) {u : Table}
 
     -- with the numbers stored, and its running thread, that is the answer
     pub stepped : (cp ct : List ℕ) (r : ℕ) (a : Answer) → (length cp ≡ 32) × ((th : ℕ) → th < 32 → at cp th ≡ at currents′ th / 65536) → (length ct ≡ 32) × ((th : ℕ) → th < 32 → at ct th ≡ time-in (at currents′ th)) →
-        r ≡ highest-ready (u .live) waits′ currents′ 32 → a ≡ record { number = 0; running = r; count = n } → record { answer = a; table = with-current (later u) cp ct } ≡ answerOf t e
+        r ≡ highest-ready waits′ currents′ 32 → a ≡ record { number = 0; running = r; count = n } → record { answer = a; table = with-current (later u) cp ct } ≡ answerOf t e
     unfolding accepted
     stepped cp ct r a p m run q = rw (q, table-is, run ∙ runs-now) (right .1 ∙ sym (let-through t e (w .unrefused)))
       where
         table-is : with-current (later u) cp ct ≡ settled (changed t e)
         table-is = ap (λ (v : Table). with-current v cp ct) (w .made) ∙ stored-settled (changed t e) shape sound (right .0) cp ct (p .0) (m .0) (p .1) (m .1)
 
-        runs-now : highest-ready (u .live) waits′ currents′ 32 ≡ runner (settled (changed t e))
-        runs-now = ap (λ (v : Table). highest-ready (v .live) waits′ currents′ 32) (w .made) ∙ runner-settled (changed t e) shape sound (right .0)
+        runs-now : highest-ready waits′ currents′ 32 ≡ runner (settled (changed t e))
+        runs-now = runner-settled (changed t e) shape sound (right .0)

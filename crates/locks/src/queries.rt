@@ -35,7 +35,7 @@ pub fn running_of(t: Table) -> RunningAnswer
     }
     RunningAnswer {
         number: 0,
-        running: running(&t.live, &c.waits, &c.current),
+        running: running(&c.waits, &c.current),
     }
 }
 

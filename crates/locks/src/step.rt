@@ -32,7 +32,7 @@ pub fn step(mut t: Table, e: Record) -> Done
     );
     let mut answer = reply(1, Table::NOBODY, 0);
     if c.sound {
-        let runs = running(&t.live, &c.waits, &c.current);
+        let runs = running(&c.waits, &c.current);
         let number = refusal(t.clock, &t.live, &t.queue, &t.length, &c.waits, runs, e);
         answer = reply(number, runs, 0);
     }
@@ -50,7 +50,7 @@ pub fn step(mut t: Table, e: Record) -> Done
         }
         let w = numbers_after(&t.queue, &t.length, &c.own, c.waits, c.current, t.clock, e);
         t.clock += 1;
-        answer = reply(0, running(&t.live, &w.waits, &w.current), w.count);
+        answer = reply(0, running(&w.waits, &w.current), w.count);
         store_priorities(&mut t.current_priority, &w.current);
         store_times(&mut t.current_time, &w.current);
     }

@@ -1,15 +1,17 @@
--- The highest number of a set that grows: by the numbers that are compared next, or by the direct waiters of one resource more.
+-- The highest number of a set that grows: by the numbers that are compared next, by the length of one queue more, or by the direct
+-- waiters of one resource more.
 -- Assumes nothing.
 use Prim.Native.Nat.{ℕ, _+_, _*_, _≤_, _<_}
 use mathlib.Core.Path.{_≡_, refl}
 use mathlib.Core.Logic.{_⊎_, inl, inr, ⊎-elim, by-cases}
 use mathlib.Core.List.{List}
-use native.Mathlib.Decide.{ℕ-discrete}
+use native.Mathlib.Decide.{ℕ-discrete, decLt}
 use native.Mathlib.Nat.{le-trans, add-zero}
 use native.Mathlib.Omega.{arith}
+use borrow.Author.Tests.{le-leb}
 use Rattle.protocol.specs.Sets.{SetOf, _∈_, only, _∪_, Max}
 use Rattle.table.specs.Table.{at}
-use Rattle.table.specs.Parts.{entry, entries-of, Compared, Waiters-numbers}
+use Rattle.table.specs.Parts.{entry, Lengths, entries-of, Compared, Waiters-numbers}
 
 -- the same set
 pub alike : {M N : SetOf ℕ} {m : ℕ} → ((a : ℕ) → a ∈ M → a ∈ N) → ((a : ℕ) → a ∈ N → a ∈ M) → Max _≤_ M m → Max _≤_ N m
@@ -26,6 +28,27 @@ joined {m} p q = record {
 pub of-two : (m v h : ℕ) → ((m < v) × (h ≡ v)) ⊎ ((v ≤ m) × (h ≡ m)) → Max _≤_ (only m ∪ only v) h
 of-two m v h (inl (l, e)) = record { among = inr e; bound = λ a. ⊎-elim (λ i. omega arith) (λ i. omega arith) }
 of-two m v h (inr (l, e)) = record { among = inl e; bound = λ a. ⊎-elim (λ i. omega arith) (λ i. omega arith) }
+
+-- the length of one queue more
+module _ (length : List ℕ) where
+  pub length-none : Max _≤_ (Lengths length 0) 0
+  length-none = record { among = inl refl; bound = λ a. ⊎-elim (λ e. omega arith) (λ w. absurd (omega (arith, w .1))) }
+
+  pub length-next : {r m h : ℕ} → Max _≤_ (only m ∪ only (at length r)) h → Max _≤_ (Lengths length r) m → Max _≤_ (Lengths length (r + 1)) h
+  length-next {r} q p = alike there back (joined p q)
+    where
+      there : (a : ℕ) → a ∈ (Lengths length r ∪ only (at length r)) → a ∈ Lengths length (r + 1)
+      there a (inl (inl e)) = inl e
+      there a (inl (inr (i, l, e))) = inr (i, omega arith, e)
+      there a (inr e) = inr (r, omega arith, e)
+
+      back : (a : ℕ) → a ∈ Lengths length (r + 1) → a ∈ (Lengths length r ∪ only (at length r))
+      back a (inl e) = inl (inl e)
+      back a (inr (i, l, e)) = by-cases (ℕ-discrete i r) (λ d. inr (rw d at e)) (λ d. inl (inr (i, omega arith, e)))
+
+-- a length of at most 1 has as many entries
+pub few-entries : (n : ℕ) → n ≤ 1 → entries-of n ≤ 1
+few-entries n h = rw (le-leb n 32 (omega arith)) h
 
 -- the waiters at one place more
 module _ (queue current : List ℕ) (r start n : ℕ) where
@@ -54,6 +77,18 @@ module _ (queue length current : List ℕ) (own t : ℕ) where
 
   pub compared-none : Max _≤_ (Of-first 0) own
   compared-none = record { among = inl refl; bound = λ a. ⊎-elim (λ e. omega arith) (λ w. absurd (omega (arith, w .2))) }
+
+  -- resources at which nobody waits add nothing
+  pub compared-all : {R m : ℕ} → R ≤ 16 → ((r : ℕ) → R ≤ r → r < 16 → at length r ≤ 1) → Max _≤_ (Of-first R) m → Max _≤_ (Of-first 16) m
+  compared-all {R} low none = alike there back
+    where
+      there : (a : ℕ) → a ∈ Of-first R → a ∈ Of-first 16
+      there a (inl e) = inl e
+      there a (inr (r, i, l, f, k, h, e)) = inr (r, i, omega arith, f, k, h, e)
+
+      back : (a : ℕ) → a ∈ Of-first 16 → a ∈ Of-first R
+      back a (inl e) = inl e
+      back a (inr (r, i, l, f, k, h, e)) = by-cases (decLt r R) (λ d. inr (r, i, d, f, k, h, e)) (λ d. absurd (omega (arith, few-entries (at length r) (none r (omega arith) l))))
 
   module _ (r : ℕ) where
     abbrev At : SetOf ℕ

@@ -9,7 +9,7 @@ use lib.ListN.{getD}
 use borrow.Author.Tests.{eq-eqb, ne-eqb, le-leb, lt-leb}
 use Rattle.table.specs.Table.{at}
 use Rattle.table.specs.Parts.{entry}
-use Rattle.table.specs.Walks.{thread-end, resource-end, is-ready, runner-number, runner}
+use Rattle.table.specs.Walks.{thread-end, resource-end, is-free, runner-number, runner}
 
 module _ (waits queue length : List ℕ) (seen : List Bool) where
   pub thread-none : (n t : ℕ) → n ≡ 0 → thread-end n waits queue length seen t ≡ 32
@@ -51,13 +51,13 @@ module _ (waits queue length : List ℕ) (seen : List Bool) where
     unfolding resource-end
     resource-on r h b l e = rw (left, lt-leb 16 r b, ne-eqb (at length r) 0 l, e)
 
-module _ (live waits current : List ℕ) (n m h : ℕ) (next : m ≡ suc n) (is : h ≡ runner-number live waits current n) where
-  pub runner-takes : (is-ready live waits n && ltb h (at current n)) ≡ true →
-      (at current n ≡ runner-number live waits current m) × (n ≡ runner live waits current m)
+module _ (waits current : List ℕ) (n m h : ℕ) (next : m ≡ suc n) (is : h ≡ runner-number waits current n) where
+  pub runner-takes : (is-free waits n && ltb h (at current n)) ≡ true →
+      (at current n ≡ runner-number waits current m) × (n ≡ runner waits current m)
   unfolding runner-number runner
   runner-takes t = rw (next, ← is, t) (refl, refl)
 
-  pub runner-keeps : (is-ready live waits n && ltb h (at current n)) ≡ false →
-      (h ≡ runner-number live waits current m) × (runner live waits current n ≡ runner live waits current m)
+  pub runner-keeps : (is-free waits n && ltb h (at current n)) ≡ false →
+      (h ≡ runner-number waits current m) × (runner waits current n ≡ runner waits current m)
   unfolding runner-number runner
   runner-keeps t = rw (next, ← is, t) (refl, refl)

@@ -1,14 +1,15 @@
 -- The queues' entries: what `row_right` learns of one queue in a turn, and `survey` of all. Assumes nothing.
 use Prim.Native.Nat.{ℕ, _+_, _≤_, _<_}
 use mathlib.Core.Path.{_≡_, refl, sym, _∙_}
-use mathlib.Core.Logic.{_≢_}
+use mathlib.Core.Logic.{_≢_, inr}
 use mathlib.Core.List.{List}
 use native.Mathlib.Omega.{arith}
 use borrow.Author.Count.{below-more}
 use lib.ListN.{length, set, replicate, getD-replicate}
 use lib.Seq.{getD-set-same, getD-set-other}
+use Rattle.protocol.specs.Sets.{Max}
 use Rattle.table.specs.Table.{at}
-use Rattle.table.specs.Parts.{entry, Stands, Row-right, Noted, Rows-right, Waits-of}
+use Rattle.table.specs.Parts.{entry, Stands, Row-right, Noted, Lengths, Rows-right, Waits-of}
 use Rattle.table.proofs.Sums.{within}
 
 -- a queue of one, or none, is right where its head is live
@@ -65,6 +66,10 @@ rows-none queue length live = record {
 
 pub waits-none : (queue length : List ℕ) → Waits-of queue length 0 (replicate 32 16)
 waits-none queue length = record { waiting = λ r x h s. absurd (omega arith); free = λ x h g. getD-replicate 32 x 16 0 h }
+
+-- where no queue has a second entry nobody waits
+pub waits-nowhere : (queue length waits : List ℕ) {n : ℕ} → Max _≤_ (Lengths length 16) n → n < 2 → Waits-of queue length 16 waits → (x : ℕ) → x < 32 → at waits x ≡ 16
+waits-nowhere queue length waits longest few known x h = known .free x h (λ r l s. omega (arith, longest .bound _ (inr (r, l, refl)), s .1, s .2))
 
 -- One queue more: `waits` has who waits in the first r, and the queue of r, of length n, is right.
 module _ (queue length live waits after : List ℕ) (r n : ℕ) (e : n ≡ at length r) (below : r < 16) (known : Waits-of queue length r waits) (row : Row-right queue live waits r n) where

@@ -58,6 +58,10 @@ pub record Rows-right (queue length live : List ℕ) (R : ℕ) : Type 0 where
   pub different : (r i j : ℕ) → r < R → 1 ≤ i → i < j → j < at length r → entry queue r i ≢ entry queue r j
   pub one-queue : (r q x : ℕ) → r < R → q < R → Stands queue r (at length r) x → Stands queue q (at length q) x → r ≡ q
 
+-- the lengths of the first R queues, and 0
+abbrev pub Lengths : List ℕ → ℕ → SetOf ℕ
+Lengths length R = only 0 ∪ (λ a. (r : ℕ) × (r < R) × (a ≡ at length r))
+
 -- `waits` has what each thread waits for in the queues of the first R resources (16: nothing)
 pub record Waits-of (queue length : List ℕ) (R : ℕ) (waits : List ℕ) : Type 0 where
   pub waiting : (r x : ℕ) → r < R → Stands queue r (at length r) x → at waits x ≡ r

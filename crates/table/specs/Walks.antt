@@ -1,4 +1,4 @@
--- Going up the chain of holders, and the highest ready thread, as the code goes about it. Assumes nothing.
+-- Going up the chain of holders, and the highest thread that waits for nothing, as the code goes about it. Assumes nothing.
 use Prim.Native.Nat.{ℕ, zero, suc, _≤_, _<_}
 use mathlib.Core.Path.{_≡_}
 use mathlib.Core.Logic.{_≢_, _⊎_}
@@ -35,18 +35,19 @@ abbrev pub Only-ended : List ℕ → List ℕ → List ℕ → List Bool → Lis
 Only-ended waits queue length before after =
     (u : ℕ) → getD after u false ≡ true → (getD before u false ≡ true) ⊎ Ends-from waits queue length u
 
--- live, and waiting for nothing
-abbrev pub is-ready : List ℕ → List ℕ → ℕ → Bool
-is-ready live waits th = eqb (at live th) 1 && eqb (at waits th) 16
+-- th waits for nothing
+abbrev pub is-free : List ℕ → ℕ → Bool
+is-free waits th = eqb (at waits th) 16
 
--- the highest number of the ready threads among the first n; 0 if there is none
-unfoldable pub runner-number : List ℕ → List ℕ → List ℕ → ℕ → ℕ
-runner-number live waits current zero = 0
-runner-number live waits current (suc n) =
-    let b = runner-number live waits current n in cond (is-ready live waits n && ltb b (at current n)) (at current n) b
+-- the highest number of the threads among the first n that wait for nothing; 0 if there is none
+unfoldable pub runner-number : List ℕ → List ℕ → ℕ → ℕ
+runner-number waits current zero = 0
+runner-number waits current (suc n) =
+    let b = runner-number waits current n in cond (is-free waits n && ltb b (at current n)) (at current n) b
 
--- the first of the highest ready threads among the first n; 32 if none of them has a number above 0 (in a sound table each live thread has)
-unfoldable pub runner : List ℕ → List ℕ → List ℕ → ℕ → ℕ
-runner live waits current zero = 32
-runner live waits current (suc n) =
-    cond (is-ready live waits n && ltb (runner-number live waits current n) (at current n)) n (runner live waits current n)
+-- of the threads among the first n that wait for nothing, the first of highest number; 32 if none of them has a number above 0 (in a sound
+-- table just the live threads have)
+unfoldable pub runner : List ℕ → List ℕ → ℕ → ℕ
+runner waits current zero = 32
+runner waits current (suc n) =
+    cond (is-free waits n && ltb (runner-number waits current n) (at current n)) n (runner waits current n)

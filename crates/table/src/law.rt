@@ -7,6 +7,7 @@ ghost use Rattle.protocol.specs.Sets.{only, _∪_, Max};
 ghost use Rattle.table.specs.Table.{at};
 ghost use Rattle.table.specs.Parts.{Waiters-numbers, entries-of, Compared};
 use crate::Table;
+use crate::queues::longest;
 use crate::queues::wide;
 
 // The number of thread x; 0 if there is no such thread. A slice tells the proof its length, an array behind a reference doesn't.
@@ -53,6 +54,17 @@ fn entries(length: u8) -> usize
     if Table::THREADS < n { 0 } else { n }
 }
 
+// How many resources the law has to look at: none where no queue has a second entry, since then nobody waits.
+fn rows_to_compare(length: &[u8; Table::RESOURCES]) -> usize
+    ensures { λ n. ⌜ (n ≤ 16) × ((r : ℕ) → n ≤ r → r < 16 → at (now (length .entry)) r ≤ 1) ⌝ }
+{
+    if longest(length) < 2 {
+        0
+    } else {
+        Table::RESOURCES
+    }
+}
+
 // What each thread is worth by the law, in one pass over the queues.
 pub fn law_values<'a>(
     queue: &'a [u8; Table::PLACES],
@@ -62,9 +74,10 @@ pub fn law_values<'a>(
 ) -> [u32; Table::THREADS]
     ensures { λ v. ⌜ ((t : ℕ) → t < 32 → Max _≤_ (Compared (now (queue .entry)) (now (length .entry)) (now (current .entry)) 16 (at own t) t) (at v t)) ⌝ }
 {
+    let rows = rows_to_compare(length);
     let mut best = own;
     let mut r = 0;
-    while r < Table::RESOURCES {
+    while r < rows {
         if 1 < length[r] {
             let h = wide(queue[r * Table::THREADS]);
             if h < Table::THREADS {
@@ -87,9 +100,10 @@ pub fn afresh<'a>(
 ) -> u32
     ensures { λ v. ⌜ Max _≤_ (Compared (now (queue .entry)) (now (length .entry)) (now (current .entry)) 16 own t) v ⌝ }
 {
+    let rows = rows_to_compare(length);
     let mut best = own;
     let mut r = 0;
-    while r < Table::RESOURCES {
+    while r < rows {
         if queue[r * Table::THREADS] == t {
             best = highest_waiter(queue, current, r, entries(length[r]), best);
         }

@@ -1,11 +1,12 @@
 // Reading the queues, and whether they are right: lengths, entries, spare places, and that nobody waits in two.
 ghost use mathlib.Core.Path.{_≡_};
 ghost use mathlib.Core.Bool.{true};
-ghost use mathlib.Core.Logic.{_↔_};
+ghost use mathlib.Core.Logic.{_↔_, _⊎_};
 ghost use Prim.Native.Nat.{ℕ, _<_, _≤_};
 ghost use lib.ListN.{length};
+ghost use Rattle.protocol.specs.Sets.{Max};
 ghost use Rattle.table.specs.Table.{at};
-ghost use Rattle.table.specs.Parts.{entry, holder-of, places-sum, Row-right, Noted, Rows-right, Waits-of};
+ghost use Rattle.table.specs.Parts.{entry, holder-of, places-sum, Row-right, Noted, Lengths, Rows-right, Waits-of};
 use crate::Table;
 
 // A byte as an index, with its range.
@@ -42,6 +43,26 @@ pub fn is_live(live: &[u8], x: u8) -> bool
         return false;
     }
     live[i] == 1
+}
+
+// The higher of two lengths. Its arguments are read before it tests anything, so that the loop over it has no branch.
+fn longer(a: u8, b: u8) -> u8
+    ensures { λ r. ⌜ ((a < b) × (r ≡ b)) ⊎ ((b ≤ a) × (r ≡ a)) ⌝ }
+{
+    if a < b { b } else { a }
+}
+
+// The length of the longest queue. All are compared, since that vectorises where a return at the first that is too long would not.
+pub fn longest(length: &[u8; Table::RESOURCES]) -> u8
+    ensures { λ n. ⌜ Max _≤_ (Lengths (now (length .entry)) 16) n ⌝ }
+{
+    let mut n: u8 = 0;
+    let mut r = 0;
+    while r < Table::RESOURCES {
+        n = longer(n, length[r]);
+        r += 1;
+    }
+    n
 }
 
 // The sum of the first n places of the queue of r.
@@ -123,15 +144,16 @@ pub fn survey<'a>(
     // As a slice, which tells the proof how long it is.
     let all = &live[..];
     let mut waits = [Table::NOTHING; Table::THREADS];
+    // A queue has 32 places.
+    if Table::NOBODY < longest(length) {
+        return Rows {
+            right: false,
+            waits,
+        };
+    }
     let mut r = 0;
     while r < Table::RESOURCES {
         let n = wide(length[r]);
-        if Table::THREADS < n {
-            return Rows {
-                right: false,
-                waits,
-            };
-        }
         if !spare_zero(queue, r, n) {
             return Rows {
                 right: false,

@@ -3,8 +3,7 @@ ghost use mathlib.Core.Path.{_≡_};
 ghost use mathlib.Core.Bool.{true};
 ghost use mathlib.Core.Logic.{_↔_};
 ghost use mathlib.Core.List.{List};
-ghost use Prim.Native.Nat.{ℕ, _<_, _≤_};
-ghost use Rattle.table.specs.Table.{at};
+ghost use Prim.Native.Nat.{ℕ, _<_};
 ghost use Rattle.table.specs.Walks.{thread-end, resource-end, Ends-from, Only-ended};
 use crate::Table;
 use crate::queues::holder;
@@ -88,29 +87,9 @@ fn mark<'a>(
     }
 }
 
-fn lower(a: u8, b: u8) -> u8
-    ensures { λ r. ⌜ (r ≤ a) × (r ≤ b) ⌝ }
-{
-    if a < b { a } else { b }
-}
-
-// A number below which nobody waits for a resource; where nobody waits at all it comes to 16. The lowest is looked for, since that
-// vectorises where a return at the first waiter would not.
-fn lowest(waits: &[u8; Table::THREADS]) -> u8
-    ensures { λ n. ⌜ ((th : ℕ) → th < 32 → n ≤ at (now (waits .entry)) th) ⌝ }
-{
-    let mut n: u8 = Table::NOTHING;
-    let mut i = 0;
-    while i < Table::THREADS {
-        n = lower(n, waits[i]);
-        i += 1;
-    }
-    n
-}
-
 // Whether the way from every thread ends. Only threads that wait are looked at, each by the holder of what it waits for: the way from
-// others ends at once, and in many tables nobody waits. All threads on a way that ends are marked, so that a later way stops where it
-// meets one: each thread is walked over once, and once more to mark it.
+// others ends at once. All threads on a way that ends are marked, so that a later way stops where it meets one: each thread is walked
+// over once, and once more to mark it.
 pub fn no_circle<'a>(
     waits: &'a [u8; Table::THREADS],
     queue: &'a [u8; Table::PLACES],
@@ -118,9 +97,6 @@ pub fn no_circle<'a>(
 ) -> bool
     ensures { λ b. ⌜ (b ≡ true) ↔ ((th : ℕ) → th < 32 → Ends-from (now (waits .entry)) (now (queue .entry)) (now (length .entry)) th) ⌝ }
 {
-    if Table::NOTHING <= lowest(waits) {
-        return true;
-    }
     let mut seen = [false; Table::THREADS];
     let mut i = 0;
     while i < Table::THREADS {

@@ -21,7 +21,7 @@ running-requires c κs = search needs
 returns-2 : tie.Need-returns-2
 unfolding unsound running-refusals running-answer lowest
 returns-2 c =
-    let d = c .before .before .before .before .before .before in
+    let d = c .before .before .before .before in
     let t = d .before .before .before .before .before .before .before .before .before .before .args .t1 in
     let k = d .before .check .ensures in
     rw (found-sound t k (d .if1 .left), c .running .ensures ∙ runner-is t k (not-false _ (d .if1 .left)))

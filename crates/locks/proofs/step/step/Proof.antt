@@ -61,8 +61,8 @@ judged c =
     let e = entry c .args .e in
     let k = c .before .before .check .ensures in
     ⊎-elim {C = Judged t e (c .before .before .check .result .sound) (c .if1 .answer)}
-    (λ w. let runs-is = runs t e k (c .if1 .answer) (w .0 .taken) (w .6 .ensures) in
-    judged-sound t e k (c .if1 .answer) (w .0 .taken) (w .13 .ensures t refl refl (lent t e k (c .if1 .answer) (w .0 .taken)) runs-is) runs-is (w .15 ∙ w .14 .ensures))
+    (λ w. let runs-is = runs t e k (c .if1 .answer) (w .0 .taken) (w .4 .ensures) in
+    judged-sound t e k (c .if1 .answer) (w .0 .taken) (w .11 .ensures t refl refl (lent t e k (c .if1 .answer) (w .0 .taken)) runs-is) runs-is (w .13 ∙ w .12 .ensures))
     (λ w. judged-unsound t e k (c .if1 .answer) (w .0 .left) (w .1 ∙ c .before .reply .ensures))
     (c .if1 .came)
 
@@ -161,20 +161,20 @@ reply-requires-3 c κs = search needs
 
 store-priorities-requires : tie.Need-store-priorities-requires
 store-priorities-requires c κs =
-    let h = c .before .before .before .before .before .before .before .before .before .before .before .before .before .before .before .before .before .before .before .before .before .before .before .before .before .before .before .before .before .before .before .before .before in
-    let k = at-work (c .before .before .before .before .before .before .before .before .before .before .before .before .before .before .before .before .before .before) in
-    (priorities-size (h .args .t1) (h .args .e) k, bytes (h .args .t1) (h .args .e) k (argument-small h) (c .before .before .before .before .before .before .before .before .before .before .numbers-after .result .count) (c .before .before .before .before .before .before .before .before .before .before .numbers-after .ensures (h .args .t1) (worked (h .args .t1) (h .args .e) k)))
+    let h = c .before .before .before .before .before .before .before .before .before .before .before .before .before .before .before .before .before .before .before .before .before .before .before .before .before .before .before .before .before .before .before in
+    let k = at-work (c .before .before .before .before .before .before .before .before .before .before .before .before .before .before .before .before) in
+    (priorities-size (h .args .t1) (h .args .e) k, bytes (h .args .t1) (h .args .e) k (argument-small h) (c .before .before .before .before .before .before .before .before .numbers-after .result .count) (c .before .before .before .before .before .before .before .before .numbers-after .ensures (h .args .t1) (worked (h .args .t1) (h .args .e) k)))
 
 store-times-requires : tie.Need-store-times-requires
 store-times-requires c κs =
-    let h = c .before .before .before .before .before .before .before .before .before .before .before .before .before .before .before .before .before .before .before .before .before .before .before .before .before .before .before .before .before .before .before .before .before .before .before .before .before in
-    times-size (h .args .t1) (h .args .e) (at-work (c .before .before .before .before .before .before .before .before .before .before .before .before .before .before .before .before .before .before .before .before .before .before))
+    let h = c .before .before .before .before .before .before .before .before .before .before .before .before .before .before .before .before .before .before .before .before .before .before .before .before .before .before .before .before .before .before .before .before .before .before .before in
+    times-size (h .args .t1) (h .args .e) (at-work (c .before .before .before .before .before .before .before .before .before .before .before .before .before .before .before .before .before .before .before .before))
 
 returns : tie.Need-returns
 returns c =
-    let h = c .before .before .before .before .before .before .before .before .before .before .before .before .before .before .before .before .before .before .before .before .before .before .before .before .before .before .before .before .before .before .before .before .before .before .before .before .before .before in
-    let k = at-work (c .before .before .before .before .before .before .before .before .before .before .before .before .before .before .before .before .before .before .before .before .before .before .before) in
-    stepped (h .args .t1) (h .args .e) k (argument-small h) (c .before .before .before .before .before .before .before .before .before .before .before .before .before .before .before .numbers-after .result .count) (c .before .before .before .before .before .before .before .before .before .before .before .before .before .before .before .numbers-after .ensures (h .args .t1) (worked (h .args .t1) (h .args .e) k))
+    let h = c .before .before .before .before .before .before .before .before .before .before .before .before .before .before .before .before .before .before .before .before .before .before .before .before .before .before .before .before .before .before .before .before .before .before .before .before in
+    let k = at-work (c .before .before .before .before .before .before .before .before .before .before .before .before .before .before .before .before .before .before .before .before .before) in
+    stepped (h .args .t1) (h .args .e) k (argument-small h) (c .before .before .before .before .before .before .before .before .before .before .before .before .before .numbers-after .result .count) (c .before .before .before .before .before .before .before .before .before .before .before .before .before .numbers-after .ensures (h .args .t1) (worked (h .args .t1) (h .args .e) k))
     (c .before .before .before .before .store-priorities .last .0) (c .store-times .last .0) (c .before .before .before .before .before .before .before .before .before .running2 .result) (c .before .before .before .before .before .before .before .before .reply3 .result) (c .before .before .before .before .store-priorities .ensures) (c .store-times .ensures) (c .before .before .before .before .before .before .before .before .before .running2 .ensures) (c .before .before .before .before .before .before .before .before .reply3 .ensures)
 
 returns-2 : tie.Need-returns-2

@@ -8,19 +8,24 @@ use borrow.Author.Needs.{needs}
 use Rattle.protocol.specs.Sets.{Max}
 use Rattle.table.specs.Table.{at}
 use Rattle.table.specs.Parts.{Compared}
-use Rattle.table.proofs.Maxima.{compared-none, compared-next}
+use Rattle.table.proofs.Maxima.{compared-none, compared-all, compared-next}
 use Rattle.table.proofs.law.afresh.Statement.{statement}
 use Rattle.table.proofs.law.afresh.Tie as tie
 
 abbrev Inv-loop : tie.InvT-loop
-Inv-loop queue length own current t best₀ r₀ best r =
-    (r ≤ 16) × Max _≤_ (Compared queue length current r own t) best
+Inv-loop queue length own current t rows best₀ r₀ best r =
+    (r ≤ rows) × Max _≤_ (Compared queue length current r own t) best
 
 abbrev μ-loop : tie.MeasureT-loop
-μ-loop queue length own current t best₀ r₀ best r = 16 - r
+μ-loop queue length own current t rows best₀ r₀ best r = rows - r
+
+rows-to-compare-requires : tie.Need-rows-to-compare-requires Inv-loop μ-loop
+rows-to-compare-requires c κs = search needs
 
 loop-holds : tie.Need-loop-holds Inv-loop μ-loop
-loop-holds c = (omega arith, compared-none (c .args .queue .now) (c .args .length .now) (c .args .current .now) (c .args .own) (c .args .t))
+loop-holds c =
+    let a = c .before .args in
+    (omega arith, compared-none (a .queue .now) (a .length .now) (a .current .now) (a .own) (a .t))
 
 mul-if1 : tie.Need-mul-if1 Inv-loop μ-loop
 mul-if1 c = omega arith
@@ -46,7 +51,7 @@ loop-less c = omega arith
 loop-again : tie.Need-loop-again Inv-loop μ-loop
 loop-again c =
     let h = c .before .before .before in
-    let a = h .before .args in (
+    let a = h .before .before .args in (
       omega arith,
       compared-next (a .queue .now) (a .length .now) (a .current .now) (a .own) (a .t) (h .loop .r)
           (⊎-elim (λ w. inl (w .0 .taken, rw (w .4) (rw (w .2 .ensures .0) at (w .3 .ensures)))) (λ w. inr ((λ e. absurd (w .0 .left e)), w .1)) (c .if1 .came))
@@ -55,8 +60,10 @@ loop-again c =
 
 returns : tie.Need-returns Inv-loop μ-loop
 returns c =
-    let e : c .before .loop .r ≡ 16 = omega arith in
-    rw e at (c .before .loop .inv .1)
+    let a = c .before .before .before .args in
+    let rows = c .before .before .rows-to-compare in
+    let e : c .before .loop .r ≡ rows .result = omega arith in
+    compared-all (a .queue .now) (a .length .now) (a .current .now) (a .own) (a .t) (rows .ensures .0) (rows .ensures .1) (rw e at (c .before .loop .inv .1))
 
 pub afresh-spec : {M : Type 1} → statement M
 afresh-spec =
@@ -64,6 +71,7 @@ afresh-spec =
     (tie.spec
     Inv-loop
     μ-loop
+    rows-to-compare-requires
     loop-holds
     mul-if1
     element-copy-out-if1

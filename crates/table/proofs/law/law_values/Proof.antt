@@ -7,20 +7,15 @@ use mathlib.Core.Logic.{inl, inr, ⊎-elim, by-cases}
 use native.Mathlib.Decide.{ℕ-discrete}
 use native.Mathlib.Omega.{arith}
 use borrow.Author.Needs.{needs}
-use borrow.Author.Tests.{le-leb}
 use lib.ListN
 use lib.ListN.{set, length-set}
 use lib.Seq.{getD-set-same, getD-set-other}
 use Rattle.protocol.specs.Sets.{only, _∪_, Max}
 use Rattle.table.specs.Table.{at}
 use Rattle.table.specs.Parts.{entries-of, Compared, Waiters-numbers}
-use Rattle.table.proofs.Maxima.{compared-none, compared-next}
+use Rattle.table.proofs.Maxima.{few-entries, compared-none, compared-all, compared-next}
 use Rattle.table.proofs.law.law_values.Statement.{statement}
 use Rattle.table.proofs.law.law_values.Tie as tie
-
--- a length of at most 1 has as many entries
-few : (n : ℕ) → n ≤ 1 → entries-of n ≤ 1
-few n h = rw (le-leb n 32 (omega arith)) h
 
 module _ (queue length current own : List ℕ) where
   -- `best` is right for the first r resources
@@ -38,15 +33,20 @@ module _ (queue length current own : List ℕ) where
   passed best r none all t l = compared-next queue length current (at own t) t r (inr (none t l, refl)) (all t l)
 
 abbrev Inv-loop : tie.InvT-loop
-Inv-loop queue length current best₀ r₀ best r =
-    (r ≤ 16) × (ListN.length best ≡ 32)
+Inv-loop queue length current rows best₀ r₀ best r =
+    (r ≤ rows) × (ListN.length best ≡ 32)
     × Right queue length current best₀ r best
 
 abbrev μ-loop : tie.MeasureT-loop
-μ-loop queue length current best₀ r₀ best r = 16 - r
+μ-loop queue length current rows best₀ r₀ best r = rows - r
+
+rows-to-compare-requires : tie.Need-rows-to-compare-requires Inv-loop μ-loop
+rows-to-compare-requires c κs = search needs
 
 loop-holds : tie.Need-loop-holds Inv-loop μ-loop
-loop-holds c = (omega arith, search needs, λ t l. compared-none (c .args .queue .now) (c .args .length .now) (c .args .current .now) (at (c .args .own) t) t)
+loop-holds c =
+    let a = c .before .args in
+    (omega arith, search needs, λ t l. compared-none (a .queue .now) (a .length .now) (a .current .now) (at (a .own) t) t)
 
 element-copy-out-if1 : tie.Need-element-copy-out-if1 Inv-loop μ-loop
 element-copy-out-if1 c = search needs
@@ -90,19 +90,21 @@ loop-less c = omega arith
 loop-again : tie.Need-loop-again Inv-loop μ-loop
 loop-again c =
     let h = c .before .before .before in
-    let a = h .before .args in
+    let a = h .before .before .args in
     let b = h .loop in
     let raise = raised (a .queue .now) (a .length .now) (a .current .now) (a .own) (b .best) (b .r) in
     let pass = passed (a .queue .now) (a .length .now) (a .current .now) (a .own) (b .best) (b .r) in
     ⊎-elim (λ w. (omega arith, rw (w .7, length-set) (b .inv .1), rw (w .7) (raise _ _ (b .inv .1) (w .3 .taken) (w .2 .ensures .0) (rw (w .5 .ensures .0) at (w .6 .ensures)) (b .inv .2))))
     (⊎-elim (λ w. (omega arith, rw (w .4) (b .inv .1), rw (w .4) (pass (λ t l e. absurd (omega (arith, w .3 .left, w .2 .ensures .0))) (b .inv .2))))
-    (λ w. (omega arith, rw (w .1) (b .inv .1), rw (w .1) (pass (λ t l e. few (at (a .length .now) (b .r)) (omega (arith, w .0 .left))) (b .inv .2)))))
+    (λ w. (omega arith, rw (w .1) (b .inv .1), rw (w .1) (pass (λ t l e. few-entries (at (a .length .now) (b .r)) (omega (arith, w .0 .left))) (b .inv .2)))))
     (c .if1 .came)
 
 returns : tie.Need-returns Inv-loop μ-loop
 returns c =
-    let e : c .before .loop .r ≡ 16 = omega arith in
-    rw e at (c .before .loop .inv .2)
+    let a = c .before .before .before .args in
+    let rows = c .before .before .rows-to-compare in
+    let e : c .before .loop .r ≡ rows .result = omega arith in
+    λ t l. compared-all (a .queue .now) (a .length .now) (a .current .now) (at (a .own) t) t (rows .ensures .0) (rows .ensures .1) (rw e at (c .before .loop .inv .2 t l))
 
 pub law-values-spec : {M : Type 1} → statement M
 law-values-spec =
@@ -110,6 +112,7 @@ law-values-spec =
     (tie.spec
     Inv-loop
     μ-loop
+    rows-to-compare-requires
     loop-holds
     element-copy-out-if1
     mul-wide

@@ -18,10 +18,10 @@ and-false true = refl
 and-false false = refl
 
 abbrev Inv-loop : tie.InvT-loop
-Inv-loop live waits current best₀ high₀ i₀ best high i = (i ≤ 32) × (high ≡ runner-number live waits current i) × (best ≡ runner live waits current i)
+Inv-loop waits current best₀ high₀ i₀ best high i = (i ≤ 32) × (high ≡ runner-number waits current i) × (best ≡ runner waits current i)
 
 abbrev μ-loop : tie.MeasureT-loop
-μ-loop live waits current best₀ high₀ i₀ best high i = 32 - i
+μ-loop waits current best₀ high₀ i₀ best high i = 32 - i
 
 loop-holds : tie.Need-loop-holds Inv-loop μ-loop
 unfolding runner-number runner
@@ -39,9 +39,6 @@ element-copy-out-if1 c = search needs
 element-copy-out-if2 : tie.Need-element-copy-out-if2 Inv-loop μ-loop
 element-copy-out-if2 c = search needs
 
-element-copy-out-if3 : tie.Need-element-copy-out-if3 Inv-loop μ-loop
-element-copy-out-if3 c = search needs
-
 mul-high : tie.Need-mul-high Inv-loop μ-loop
 mul-high c = search needs
 
@@ -58,12 +55,11 @@ loop-again : tie.Need-loop-again Inv-loop μ-loop
 loop-again c =
     let s = c .before .before .before .loop in
     let a = c .before .before .before .before .args in
-    let take = runner-takes (a .live .now) (a .waits .now) (a .current .now) (s .i) (s .i + 1) (s .high) (add-one _) (s .inv .1) in
-    let keep = runner-keeps (a .live .now) (a .waits .now) (a .current .now) (s .i) (s .i + 1) (s .high) (add-one _) (s .inv .1) in
-    ⊎-elim (λ w. let k = take (rw (lt-ltb _ _ (w .0 .taken), w .2 .taken, w .4 .taken)) in (omega arith, w .7 ∙ k .0, w .6 ∙ k .1))
+    let take = runner-takes (a .waits .now) (a .current .now) (s .i) (s .i + 1) (s .high) (add-one _) (s .inv .1) in
+    let keep = runner-keeps (a .waits .now) (a .current .now) (s .i) (s .i + 1) (s .high) (add-one _) (s .inv .1) in
+    ⊎-elim (λ w. let k = take (rw (lt-ltb _ _ (w .0 .taken), w .2 .taken)) in (omega arith, w .5 ∙ k .0, w .4 ∙ k .1))
     (λ w.
-    let k = keep (⊎-elim (λ v. rw (v .2 .taken, v .4 .left))
-    (⊎-elim (λ v. rw (v .2 .left, and-false)) (λ v. rw (le-ltb _ _ (v .left), and-false))) (w .0 .came)) in
+    let k = keep (⊎-elim (λ v. rw (v .2 .left)) (λ v. rw (le-ltb _ _ (v .left), and-false)) (w .0 .came)) in
     (omega arith, w .2 ∙ k .0, w .1 ∙ s .inv .2 ∙ k .1))
     (c .if1 .came)
 
@@ -83,7 +79,6 @@ running-spec =
     mul-if1
     element-copy-out-if1
     element-copy-out-if2
-    element-copy-out-if3
     mul-high
     element-copy-out-high
     add-i

@@ -27,12 +27,6 @@ Inv-loop waits queue length seen₀ i₀ seen i = (i ≤ 32) × ((u : ℕ) → u
 abbrev μ-loop : tie.MeasureT-loop
 μ-loop waits queue length seen₀ i₀ seen i = 32 - i
 
-lowest-requires : tie.Need-lowest-requires Inv-loop μ-loop
-lowest-requires c κs = search needs
-
-returns : tie.Need-returns Inv-loop μ-loop
-returns c = ((λ _ th h. (0, here {t = th} h (omega (arith, c .before .lowest .ensures th h)))), λ _. refl)
-
 loop-holds : tie.Need-loop-holds Inv-loop μ-loop
 loop-holds c = (omega arith, (λ u h. absurd (omega arith)), λ u e. absurd (unseen 32 u e))
 
@@ -45,34 +39,34 @@ wide-requires c κs = search needs
 holder-requires : tie.Need-holder-requires Inv-loop μ-loop
 holder-requires c κs = search needs
 
-returns-2 : tie.Need-returns-2 Inv-loop μ-loop
-returns-2 c =
+returns : tie.Need-returns Inv-loop μ-loop
+returns c =
     let s = c .before .before .before .before .before .before .loop in
     let r = c .before .before .before .wide .ensures .0 in
     let y = c .before .holder .ensures in
     ((λ e. absurd (false≢true e)), λ f. absurd (omega (arith, ends-low _ _ _ (ends-holder _ _ _ (s .i) _ _ r (omega arith) y (f (s .i) (omega arith))))))
 
-cast-if4 : tie.Need-cast-if4 Inv-loop μ-loop
-cast-if4 c = search needs
+cast-if3 : tie.Need-cast-if3 Inv-loop μ-loop
+cast-if3 c = search needs
 
-array-read-if4 : tie.Need-array-read-if4 Inv-loop μ-loop
-array-read-if4 c = search needs
+array-read-if3 : tie.Need-array-read-if3 Inv-loop μ-loop
+array-read-if3 c = search needs
 
 from-thread-requires : tie.Need-from-thread-requires Inv-loop μ-loop
 from-thread-requires c κs = search needs
 
-returns-3 : tie.Need-returns-3 Inv-loop μ-loop
-returns-3 c =
+returns-2 : tie.Need-returns-2 Inv-loop μ-loop
+returns-2 c =
     let d = c .before .before .before .before in
     let s = d .before .before .before .before .before .before .loop in
     let r = d .before .before .before .wide .ensures .0 in
     let y = d .before .holder .ensures in
-    ((λ e. absurd (false≢true e)), λ f. absurd (ends-found _ _ _ _ _ (ends-holder _ _ _ (s .i) _ _ r (omega arith) y (f (s .i) (omega arith))) (sym (c .before .from-thread .ensures) ∙ c .if5 .taken)))
+    ((λ e. absurd (false≢true e)), λ f. absurd (ends-found _ _ _ _ _ (ends-holder _ _ _ (s .i) _ _ r (omega arith) y (f (s .i) (omega arith))) (sym (c .before .from-thread .ensures) ∙ c .if4 .taken)))
 
 mark-requires : tie.Need-mark-requires Inv-loop μ-loop
 mark-requires c κs =
     let s = c .before .before .before .before .before .before .before .before .before .before .before .loop in
-    (_, found-ends _ _ _ _ (s .inv .2) 64 _ (λ e. c .before .if5 .left (c .before .before .from-thread .ensures ∙ e)))
+    (_, found-ends _ _ _ _ (s .inv .2) 64 _ (λ e. c .before .if4 .left (c .before .before .from-thread .ensures ∙ e)))
 
 array-write-seen : tie.Need-array-write-seen Inv-loop μ-loop
 array-write-seen c = search needs
@@ -86,7 +80,7 @@ loop-less c = search needs
 loop-again : tie.Need-loop-again Inv-loop μ-loop
 loop-again c =
     let s = c .before .before .before .before .loop in
-    let a = c .before .before .before .before .before .before .before .args in
+    let a = c .before .before .before .before .before .args in
     ⊎-elim
     (λ w.
     let k : Ends-from (a .waits .now) (a .queue .now) (a .length .now) (w .1 .result) × ((u : ℕ) → getD (w .3 .seen) u false ≡ true → Ends-from (a .waits .now) (a .queue .now) (a .length .now) u) = ⊎-elim
@@ -98,10 +92,10 @@ loop-again c =
     let new = holder-ends _ _ _ (s .i) _ _ (c .before .wide .ensures .0) (w .0 .taken) (w .1 .ensures) (omega arith) (omega (arith, w .2 .left)) (k .0) in
     (omega arith, below-more _ _ (s .inv .1) new, rw (w .4) (marked (w .3 .seen) (s .i) (k .1) new)))
     (λ w. (omega arith, below-more _ _ (s .inv .1) (0, here {t = s .i} (omega arith) (omega (arith, w .0 .left))), rw (w .1) (s .inv .2)))
-    (c .if2 .came)
+    (c .if1 .came)
 
-returns-4 : tie.Need-returns-4 Inv-loop μ-loop
-returns-4 c = ((λ _ th h. c .before .loop .inv .1 th (omega arith)), λ _. refl)
+returns-3 : tie.Need-returns-3 Inv-loop μ-loop
+returns-3 c = ((λ _ th h. c .before .loop .inv .1 th (omega arith)), λ _. refl)
 
 pub no-circle-spec : {M : Type 1} → statement M
 no-circle-spec =
@@ -109,20 +103,18 @@ no-circle-spec =
     (tie.spec
     Inv-loop
     μ-loop
-    lowest-requires
-    returns
     loop-holds
     element-copy-out-wide
     wide-requires
     holder-requires
-    returns-2
-    cast-if4
-    array-read-if4
+    returns
+    cast-if3
+    array-read-if3
     from-thread-requires
-    returns-3
+    returns-2
     mark-requires
     array-write-seen
     add-i
     loop-less
     loop-again
-    returns-4)
+    returns-3)
