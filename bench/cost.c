@@ -1,19 +1,21 @@
 /* What the calls cost: runs the same events through the library and fast.c, each kind of event by a function of its own, so that
-   `count` can tell the kinds apart. It prints nothing but a line on what it ran; the figures are count's.
-     cost vector FILE     the records of a file, from the empty table
-     cost live N EVENTS   a busy history with N live threads
-     cost chain rising    sixteen holders in one chain, ids rising from its end to who joins; 16 requests at the far end, growing to 32 live
-                          threads, then every release
-     cost chain falling   the same with falling ids: a test that looks at the threads in their order meets each way at its longest
-     cost crowd           one thread holds all, 31 others wait at one resource, then the releases
-     cost chains N        N tables of 32 live threads with sixteen holders in one chain, in any order of ids, the others waiting anywhere; a
-                          request at the far end, then the release at the near one
-     cost made EVENTS     one event on each of many made tables with up to 32 live threads, most of them waiting */
+   `count` can tell the kinds apart. It prints nothing but a line on what it ran; the figures are count's. */
 #include <stdio.h>
 #include <stdlib.h>
 #include <string.h>
 #include "draw.h"
 #include "model.h"
+
+static const char usage[] =
+    "cost vector FILE       the records of a file, from the empty table\n"
+    "cost live N EVENTS     a busy history with N live threads, of accepted events only\n"
+    "cost chain ORDER GAP   sixteen holders in one chain, ids `rising` or `falling` from its end to who joins; requests at the far end,\n"
+    "                       growing to 32 live threads, then every release; a thread is created when the clock is a multiple of GAP\n"
+    "cost crowd             one thread holds all, 31 others wait at one resource, then the releases\n"
+    "cost chains N GAP      N tables of 32 live threads with sixteen holders in one chain, in any order of ids, the others waiting\n"
+    "                       anywhere, set times GAP apart; a request at the far end, then the release at the near one\n"
+    "cost made EVENTS       one event on each of many made tables with up to 32 live threads, most of them waiting\n"
+    "N, EVENTS and GAP are at least 1.\n";
 
 typedef struct locktable_answer step(struct locktable *, struct locktable_record);
 
@@ -43,19 +45,19 @@ static step *const fast_steps[] = { fast_create, fast_exit, fast_set, fast_p_fre
 
 /* Aligned, because memcpy's count depends on where its ends lie. */
 static _Alignas(64) struct locktable ours, fast;
-static unsigned runs = 32, calls;
+static unsigned runs = LOCKTABLE_NOBODY, calls;
 
 /* What the event will be, by the model on a copy. */
 static enum kind kind_of(struct locktable_record e)
 {
     struct locktable copy = ours;
-    if (model_step(&copy, e).number != 0)
+    if (model_step(&copy, e).number != LOCKTABLE_ACCEPTED)
         return REFUSED;
     switch (e.kind) {
-    case 1: return CREATE;
-    case 2: return EXIT;
-    case 3: return SET;
-    case 4: return ours.length[e.argument] == 0 ? P_FREE : P_TAKEN;
+    case LOCKTABLE_CREATE: return CREATE;
+    case LOCKTABLE_EXIT: return EXIT;
+    case LOCKTABLE_SET: return SET;
+    case LOCKTABLE_P: return ours.length[e.argument] == 0 ? P_FREE : P_TAKEN;
     default: return ours.length[e.argument] == 1 ? V_LAST : V_HEIR;
     }
 }
@@ -97,10 +99,20 @@ static int vector(const char *path)
     return 0;
 }
 
+/* A refused event changes nothing, so that many of them would hide what the others cost. */
+static struct locktable_record draw_accepted(struct dice *d, const struct mood *m)
+{
+    struct locktable_record e;
+    do
+        e = draw_busy_record(d, m, &ours, runs);
+    while (kind_of(e) == REFUSED);
+    return e;
+}
+
 /* Threads are live first, then the events count: the Creates on the way there are few. */
 static int live(unsigned threads, unsigned events)
 {
-    struct mood m = { threads, threads < 16 ? threads : 16, 256, 0 };
+    struct mood m = { threads, threads < LOCKTABLE_RESOURCES ? threads : LOCKTABLE_RESOURCES, 256, 0 };
     struct dice d = { mix(threads) };
     for (unsigned i = 0; i < threads; i++) {
         struct locktable_record e = draw_busy_record(&d, &m, &ours, runs);
@@ -109,37 +121,42 @@ static int live(unsigned threads, unsigned events)
         runs = a.running;
     }
     while (calls < events)
-        both(draw_busy_record(&d, &m, &ours, runs));
+        both(draw_accepted(&d, &m));
     return 0;
 }
 
 /* The running thread gives back what it holds and exits, until nobody is left. */
 static void drain(void)
 {
-    while (runs < 32) {
+    while (runs != LOCKTABLE_NOBODY) {
         unsigned thread = runs;
-        for (unsigned r = 0; r < 16 && runs == thread; r++)
-            if (ours.length[r] > 0 && ours.queue[32 * r] == thread)
-                event(5, thread, r);
+        for (unsigned r = 0; r < LOCKTABLE_RESOURCES && runs == thread; r++)
+            if (ours.length[r] > 0 && ours.queue[LOCKTABLE_THREADS * r] == thread)
+                event(LOCKTABLE_V, thread, r);
         if (runs == thread)
-            event(2, thread, 0);
+            event(LOCKTABLE_EXIT, thread, 0);
     }
 }
 
-static int chain(bool falling)
+/* The clock goes on to a multiple of the gap, as it would by events that leave nothing behind: a Create, perhaps a Set, and an Exit. */
+static void turn_clock(unsigned gap)
 {
-    for (unsigned i = 0; i < 16; i++) {
-        unsigned thread = falling ? 31 - i : i;
-        event(1, thread, 10 + i);
-        event(4, thread, i);
+    ours.clock = (uint16_t)((ours.clock + gap - 1) / gap * gap);
+    fast.clock = ours.clock;
+}
+
+/* Sixteen threads hold a resource each and all but the first wait for the one before; the others wait for the last. Each is the highest so far,
+   so its request raises all who hold. */
+static int chain(bool falling, unsigned gap)
+{
+    for (unsigned i = 0; i < LOCKTABLE_THREADS; i++) {
+        unsigned thread = falling ? LAST_THREAD - i : i;
+        turn_clock(gap);
+        event(LOCKTABLE_CREATE, thread, 10 + i);
+        if (i < LOCKTABLE_RESOURCES)
+            event(LOCKTABLE_P, thread, i);
         if (i > 0)
-            event(4, thread, i - 1);
-    }
-    /* Each is the highest so far, so its request raises all sixteen. */
-    for (unsigned i = 16; i < 32; i++) {
-        unsigned thread = falling ? 31 - i : i;
-        event(1, thread, 100 + i);
-        event(4, thread, 15);
+            event(LOCKTABLE_P, thread, i < LOCKTABLE_RESOURCES ? i - 1 : LAST_RESOURCE);
     }
     drain();
     return 0;
@@ -147,21 +164,21 @@ static int chain(bool falling)
 
 static int crowd(void)
 {
-    event(1, 0, 0);
-    for (unsigned r = 0; r < 16; r++)
-        event(4, 0, r);
-    for (unsigned i = 1; i < 32; i++) {
-        event(1, i, 100 + i);
-        event(4, i, 0);
+    event(LOCKTABLE_CREATE, 0, 0);
+    for (unsigned r = 0; r < LOCKTABLE_RESOURCES; r++)
+        event(LOCKTABLE_P, 0, r);
+    for (unsigned i = 1; i < LOCKTABLE_THREADS; i++) {
+        event(LOCKTABLE_CREATE, i, 100 + i);
+        event(LOCKTABLE_P, i, 0);
     }
-    event(3, 0, 0);
+    event(LOCKTABLE_SET, 0, 0);
     drain();
     return 0;
 }
 
 static int made(unsigned events)
 {
-    struct mood m = { 32, 16, 256, 0 };
+    struct mood m = { LOCKTABLE_THREADS, LOCKTABLE_RESOURCES, 256, 0 };
     struct dice d = { 1 };
     while (calls < events) {
         make_table(&d, &m, &ours);
@@ -172,36 +189,55 @@ static int made(unsigned events)
     return 0;
 }
 
-static int chains(unsigned tables)
+static int chains(unsigned tables, unsigned gap)
 {
     struct dice d = { 1 };
     struct chain c;
     while (tables-- > 0) {
-        make_chain(&d, 16, 100, &ours, &c);
+        make_chain(&d, LOCKTABLE_RESOURCES, 100, gap, &ours, &c);
         fast = ours;
-        event(4, c.thread[31], c.resource[15]);
-        event(5, c.thread[0], c.resource[0]);
+        event(LOCKTABLE_P, c.thread[LAST_THREAD], c.resource[LAST_RESOURCE]);
+        event(LOCKTABLE_V, c.thread[0], c.resource[0]);
     }
     return 0;
 }
 
+/* The number from 1 to the most, or 0 if the word is not one. */
+static unsigned number(const char *word, unsigned most)
+{
+    char *end;
+    unsigned long n = strtoul(word, &end, 10);
+    return *end == 0 && n <= most ? (unsigned)n : 0;
+}
+
+/* The history that the words name; 2 if they name none. A clock has 65,535 events, and 32 threads 2,000 apart fit in that. */
+static int history(int words, char **word)
+{
+    const char *name = words > 0 ? word[0] : "";
+    unsigned n = words > 1 ? number(word[1], 60000) : 0, gap = words > 2 ? number(word[2], 2000) : 0;
+    bool falling = words > 1 && strcmp(word[1], "falling") == 0, rising = words > 1 && strcmp(word[1], "rising") == 0;
+    if (words == 2 && strcmp(name, "vector") == 0)
+        return vector(word[1]);
+    if (words == 3 && strcmp(name, "live") == 0 && n > 0 && n <= LOCKTABLE_THREADS && number(word[2], 60000) > 0)
+        return live(n, number(word[2], 60000));
+    if (words == 3 && strcmp(name, "chain") == 0 && (falling || rising) && gap > 0)
+        return chain(falling, gap);
+    if (words == 1 && strcmp(name, "crowd") == 0)
+        return crowd();
+    if (words == 3 && strcmp(name, "chains") == 0 && n > 0 && gap > 0)
+        return chains(n, gap);
+    if (words == 2 && strcmp(name, "made") == 0 && n > 0)
+        return made(n);
+    fputs(usage, stderr);
+    return 2;
+}
+
 int main(int argc, char **argv)
 {
-    int status = 2;
     locktable_empty(&ours);
     fast_empty(&fast);
-    if (argc == 3 && strcmp(argv[1], "vector") == 0)
-        status = vector(argv[2]);
-    else if (argc == 4 && strcmp(argv[1], "live") == 0)
-        status = live((unsigned)atoi(argv[2]), (unsigned)atoi(argv[3]));
-    else if (argc == 3 && strcmp(argv[1], "chain") == 0)
-        status = chain(strcmp(argv[2], "falling") == 0);
-    else if (argc == 2 && strcmp(argv[1], "crowd") == 0)
-        status = crowd();
-    else if (argc == 3 && strcmp(argv[1], "chains") == 0)
-        status = chains((unsigned)atoi(argv[2]));
-    else if (argc == 3 && strcmp(argv[1], "made") == 0)
-        status = made((unsigned)atoi(argv[2]));
-    printf("%u calls\n", calls);
+    int status = history(argc - 1, argv + 1);
+    if (status == 0)
+        printf("%u calls\n", calls);
     return status;
 }

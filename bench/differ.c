@@ -1,5 +1,7 @@
 /* The differential test: the library, fast.c and the model get the same tables and records by chance. After every call the answers
-   and all bytes of the tables must be equal. `differ --help` says the rest. */
+   and all bytes of the tables must be equal.
+     differ [--seed N] [--tests N] [--only N]       tests 1 to N of a seed (6,000 of a fresh one), or only test N
+     differ --drill model|fast|library FILE..       the listing of each file of records, by one side */
 #include <stdio.h>
 #include <stdlib.h>
 #include <string.h>
@@ -7,7 +9,8 @@
 #include "draw.h"
 #include "model.h"
 
-enum { NUMBERS = 12, KINDS = 7, ANSWER = 6, COUNTS = 17 };
+/* Kinds: 0, the five of the header, and all beyond. A count is at most the number of resources: a chain has so many holders. */
+enum { NUMBERS = LOCKTABLE_STILL_HOLDS + 1, OTHER_KINDS = LOCKTABLE_V + 1, KINDS, COUNTS = LOCKTABLE_RESOURCES + 1, ANSWER = 6 };
 enum call { STEP, EMPTY, RUNNING, THREAD, RESOURCE, CALLS };
 static const char *const call_names[CALLS] = { "step", "empty", "running", "thread", "resource" };
 
@@ -30,7 +33,7 @@ enum { SIDES = sizeof sides / sizeof sides[0] };
 
 static struct {
     unsigned long long seed, test, event;
-    unsigned long long calls[CALLS], steps[KINDS][NUMBERS], counts[COUNTS], damaged[2], broken[2], made[2];
+    unsigned long long calls[CALLS], steps[KINDS][NUMBERS], counts[COUNTS], damaged[2], broken[2], made[2]; /* unsound, sound */
 } run;
 
 /* Mixed twice, so that runs of neighbouring seeds have no test in common. */
@@ -78,8 +81,7 @@ _Noreturn static void fail(const struct side *s, enum call call, const struct lo
                            unsigned answers[2][ANSWER], const struct locktable after[2])
 {
     const uint8_t *want = (const uint8_t *)&after[0], *got = (const uint8_t *)&after[1];
-    printf("FAILED: %s differs from the model. seed %llu, table %llu (its seed %llu), event %llu\n", s->name, run.seed, run.test,
-           seed_of(run.test), run.event);
+    printf("FAILED: %s differs from the model. seed %llu, test %llu, event %llu\n", s->name, run.seed, run.test, run.event);
     printf("  call %s, record %u %u %u %u\n", call_names[call], e.kind, e.thread, e.argument, e.zero);
     print_answer("model", answers[0]);
     print_answer(s->name, answers[1]);
@@ -87,7 +89,7 @@ _Noreturn static void fail(const struct side *s, enum call call, const struct lo
         if (want[i] != got[i])
             printf("  byte %zu of the table: model %u, %s %u\n", i, want[i], s->name, got[i]);
     print_bytes("the table given:", given);
-    printf("  repeat it with --seed %llu --only %llu\n", run.seed, run.test);
+    printf("  repeat it with bench/run --seed %llu --only %llu\n", run.seed, run.test);
     exit(1);
 }
 
@@ -108,8 +110,9 @@ static void compare(enum call call, struct locktable *t, struct locktable_record
     memcpy(answer, answers[0], sizeof answers[0]);
     run.calls[call]++;
     if (call == STEP) {
-        run.steps[e.kind < KINDS ? e.kind : KINDS - 1][answer[0]]++;
-        run.counts[answer[2]]++;
+        run.steps[e.kind < OTHER_KINDS ? e.kind : OTHER_KINDS][answer[0]]++;
+        if (answer[0] == LOCKTABLE_ACCEPTED)
+            run.counts[answer[2]]++;
     }
 }
 
@@ -122,35 +125,38 @@ static void compare_query(enum call call, struct locktable *t, unsigned argument
 static void compare_some_queries(struct dice *d, struct locktable *t)
 {
     compare_query(RUNNING, t, 0);
-    compare_query(THREAD, t, roll(d, 8) == 0 ? roll(d, 256) : roll(d, 33));
-    compare_query(RESOURCE, t, roll(d, 8) == 0 ? roll(d, 256) : roll(d, 17));
+    compare_query(THREAD, t, roll(d, 8) == 0 ? roll(d, 256) : roll(d, LOCKTABLE_THREADS + 1));
+    compare_query(RESOURCE, t, roll(d, 8) == 0 ? roll(d, 256) : roll(d, LOCKTABLE_RESOURCES + 1));
 }
 
 static void compare_all_queries(struct locktable *t)
 {
     compare_query(RUNNING, t, 0);
-    for (unsigned i = 0; i <= 33; i++)
+    for (unsigned i = 0; i <= LOCKTABLE_THREADS + 1; i++)
         compare_query(THREAD, t, i);
-    for (unsigned i = 0; i <= 17; i++)
+    for (unsigned i = 0; i <= LOCKTABLE_RESOURCES + 1; i++)
         compare_query(RESOURCE, t, i);
 }
 
-/* A record and the queries on a table that stands alone. */
-static unsigned compare_lone(struct dice *d, const struct mood *m, struct locktable t)
+/* A record and the queries on a table that stands alone; tells whether it was sound. In one that isn't nobody runs, so any thread may be
+   meant: each kind of event must be refused there. */
+static bool compare_lone(struct dice *d, const struct mood *m, struct locktable t)
 {
-    unsigned answer[ANSWER];
+    struct locktable_running_answer runs = model_running(&t);
+    bool sound = runs.number != LOCKTABLE_NOT_SOUND;
+    unsigned answer[ANSWER], acting = sound ? runs.running : roll(d, LOCKTABLE_THREADS);
     compare_some_queries(d, &t);
-    compare(STEP, &t, draw_record(d, m, &t, model_running(&t).running), answer);
-    return answer[0];
+    compare(STEP, &t, draw_record(d, m, &t, acting), answer);
+    return sound;
 }
 
 static void compare_damaged(struct dice *d, const struct mood *m, struct locktable t)
 {
     struct locktable bytes = t;
     damage(d, &bytes);
-    run.damaged[compare_lone(d, m, bytes) == 1]++;
+    run.damaged[compare_lone(d, m, bytes)]++;
     break_a_rule(d, &t);
-    run.broken[compare_lone(d, m, t) == 1]++;
+    run.broken[compare_lone(d, m, t)]++;
 }
 
 static void history(struct dice *d, const struct mood *m, struct locktable *t, unsigned events)
@@ -165,13 +171,16 @@ static void history(struct dice *d, const struct mood *m, struct locktable *t, u
     }
 }
 
-/* A chain of holders and a request somewhere in it: by chance alone the walk is seldom longer than two. */
+/* A chain of holders and a request in it, every second time at its far end: by chance alone the walk is seldom longer than two. One chain in
+   four is as long as there are resources, so that the highest count comes up often. */
 static void start_with_chain(struct dice *d, struct locktable *t)
 {
-    unsigned length = 1 + roll(d, 16), answer[ANSWER];
+    unsigned length = roll(d, 4) == 0 ? LOCKTABLE_RESOURCES : 1 + roll(d, LOCKTABLE_RESOURCES), answer[ANSWER];
+    unsigned waiting_percent = roll(d, 2) == 0 ? 100 : 30, gap = roll(d, 2) == 0 ? 1 : 1 + roll(d, 100);
+    unsigned at = roll(d, 2) == 0 ? length - 1 : roll(d, length);
     struct chain c;
-    make_chain(d, length, roll(d, 2) == 0 ? 100 : 30, t, &c);
-    compare(STEP, t, (struct locktable_record){ 4, c.thread[31], c.resource[roll(d, length)], 0 }, answer);
+    make_chain(d, length, waiting_percent, gap, t, &c);
+    compare(STEP, t, (struct locktable_record){ LOCKTABLE_P, c.thread[LAST_THREAD], c.resource[at], 0 }, answer);
 }
 
 /* One table in two starts empty, one in four is a chain, one in four a made one if it is sound. */
@@ -179,17 +188,17 @@ static void start(struct dice *d, struct mood *m, struct locktable *t)
 {
     unsigned which = roll(d, 4);
     make_table(d, m, t);
-    run.made[compare_lone(d, m, *t) == 1]++;
+    run.made[compare_lone(d, m, *t)]++;
     if (which == 0) {
         start_with_chain(d, t);
-        m->threads = 32;
-        m->resources = 16;
+        m->threads = LOCKTABLE_THREADS;
+        m->resources = LOCKTABLE_RESOURCES;
     } else if (which > 1 || !model_sound(t)) {
         fill_with_noise(d, t); /* so that `empty` has something to clear */
         compare_query(EMPTY, t, 0);
     }
     if (roll(d, 8) == 0)
-        t->clock = (uint16_t)(65535 - roll(d, 40));
+        t->clock = (uint16_t)(LOCKTABLE_EVENTS - roll(d, 40));
 }
 
 /* Test number n: one history, with damaged tables on the way; then noise. */
@@ -220,30 +229,34 @@ static void print_totals(void)
             printf(" %8llu", run.steps[i][k]);
         printf("\n");
     }
-    printf("steps by count:");
+    printf("accepted steps by count, from 0:");
     for (int i = 0; i < COUNTS; i++)
         printf(" %llu", run.counts[i]);
     printf("\ncalls:");
     for (int i = 0; i < CALLS; i++)
         printf(" %s %llu", call_names[i], run.calls[i]);
-    printf("\ntables with 1 to 4 bytes changed: %llu unsound, %llu still sound\n", run.damaged[1], run.damaged[0]);
-    printf("tables with at most one rule broken: %llu unsound, %llu still sound\n", run.broken[1], run.broken[0]);
-    printf("made tables: %llu unsound, %llu sound\n", run.made[1], run.made[0]);
+    printf("\ntables with 1 to 4 bytes changed: %llu unsound, %llu still sound\n", run.damaged[0], run.damaged[1]);
+    printf("tables with at most one rule broken: %llu unsound, %llu still sound\n", run.broken[0], run.broken[1]);
+    printf("made tables: %llu unsound, %llu sound\n", run.made[0], run.made[1]);
 }
 
-/* A run that does not meet every refusal tests less than it says. */
-static int all_numbers_met(void)
+/* A run that does not meet every refusal and every count, and an unsound table with every kind, tests less than it says. */
+static bool all_met(void)
 {
-    int met = 1;
+    bool met = true;
     for (int k = 0; k < NUMBERS; k++) {
         unsigned long long n = 0;
         for (int i = 0; i < KINDS; i++)
             n += run.steps[i][k];
-        if (n == 0) {
-            printf("FAILED: no step was answered with %d\n", k);
-            met = 0;
-        }
+        if (n == 0)
+            met = false, printf("FAILED: no step was answered with %d\n", k);
     }
+    for (int i = 0; i < COUNTS; i++)
+        if (run.counts[i] == 0)
+            met = false, printf("FAILED: no accepted step had the count %d\n", i);
+    for (int i = 0; i < KINDS; i++)
+        if (run.steps[i][LOCKTABLE_NOT_SOUND] == 0)
+            met = false, printf("FAILED: no unsound table was given an event of kind %d\n", i);
     return met;
 }
 
@@ -260,7 +273,7 @@ static int tests(unsigned long long from, unsigned long long to)
         }
     }
     print_totals();
-    if (from != to && !all_numbers_met())
+    if (from != to && !all_met())
         return 1;
     printf("all answers and all tables equal\n");
     return 0;
@@ -281,7 +294,7 @@ static int drill(const struct side *s, const char *path)
     printf("n code run count\n");
     for (unsigned n = 1; (got = fread(b, 1, 4, f)) == 4; n++) {
         struct locktable_answer a = s->step(&t, (struct locktable_record){ b[0], b[1], b[2], b[3] });
-        if (a.running < 32)
+        if (a.running < LOCKTABLE_NOBODY)
             printf("%u %u %u %u\n", n, a.number, a.running, a.count);
         else
             printf("%u %u - %u\n", n, a.number, a.count);
@@ -307,7 +320,7 @@ static int drills(const char *name, char **paths)
 
 int main(int argc, char **argv)
 {
-    unsigned long long from = 1, to = 100;
+    unsigned long long from = 1, to = 6000;
     run.seed = (unsigned long long)time(0);
     for (int i = 1; i < argc; i++) {
         const char *value = i + 1 < argc ? argv[i + 1] : 0;

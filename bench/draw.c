@@ -3,8 +3,8 @@
 #include "draw.h"
 #include "model.h"
 
-enum { THREADS = 32, RESOURCES = 16, PLACES = 32, NOBODY = 32 };
-enum { CREATE = 1, EXIT = 2, SET = 3, P = 4, V = 5 };
+/* The first place of a resource's queue: it has LOCKTABLE_THREADS of them, one for each thread. */
+static unsigned first_place(unsigned resource) { return LOCKTABLE_THREADS * resource; }
 
 /* Where C would leave the order of two rolls open they stand in two statements: a seed means the same to every compiler. */
 
@@ -29,8 +29,8 @@ struct mood draw_mood(struct dice *d)
 {
     static const unsigned priorities[] = { 1, 2, 3, 8, 256 }, junk[] = { 0, 2, 10, 50 };
     struct mood m;
-    m.threads = chance(d, 50) ? 2 + roll(d, 6) : 2 + roll(d, 31);
-    m.resources = chance(d, 50) ? 1 + roll(d, 4) : 1 + roll(d, 16);
+    m.threads = chance(d, 50) ? 2 + roll(d, 6) : 2 + roll(d, LOCKTABLE_THREADS - 1);
+    m.resources = chance(d, 50) ? 1 + roll(d, 4) : 1 + roll(d, LOCKTABLE_RESOURCES);
     m.priorities = priorities[roll(d, 5)];
     m.junk_percent = junk[roll(d, 4)];
     return m;
@@ -55,10 +55,10 @@ static struct locktable_record junk_record(struct dice *d)
 /* A resource that the thread holds, if there is one. */
 static unsigned held_resource(struct dice *d, const struct locktable *t, unsigned thread)
 {
-    unsigned start = roll(d, RESOURCES);
-    for (unsigned i = 0; i < RESOURCES; i++) {
-        unsigned r = (start + i) % RESOURCES;
-        if (t->length[r] > 0 && t->queue[PLACES * r] == thread)
+    unsigned start = roll(d, LOCKTABLE_RESOURCES);
+    for (unsigned i = 0; i < LOCKTABLE_RESOURCES; i++) {
+        unsigned r = (start + i) % LOCKTABLE_RESOURCES;
+        if (t->length[r] > 0 && t->queue[first_place(r)] == thread)
             return r;
     }
     return start;
@@ -69,7 +69,7 @@ static struct locktable_record create_record(struct dice *d, const struct mood *
     unsigned start = roll(d, m->threads), thread = start;
     for (unsigned i = 0; i < m->threads && t->live[thread]; i++)
         thread = (start + i) % m->threads;
-    return (struct locktable_record){ CREATE, (uint8_t)thread, draw_priority(d, m), 0 };
+    return (struct locktable_record){ LOCKTABLE_CREATE, (uint8_t)thread, draw_priority(d, m), 0 };
 }
 
 /* A resource that another thread holds, if there is one: without such requests there is little contention. */
@@ -78,7 +78,7 @@ static unsigned taken_resource(struct dice *d, const struct mood *m, const struc
     unsigned start = roll(d, m->resources);
     for (unsigned i = 0; i < m->resources; i++) {
         unsigned r = (start + i) % m->resources;
-        if (t->length[r] > 0 && t->queue[PLACES * r] != thread)
+        if (t->length[r] > 0 && t->queue[first_place(r)] != thread)
             return r;
     }
     return start;
@@ -87,15 +87,15 @@ static unsigned taken_resource(struct dice *d, const struct mood *m, const struc
 static struct locktable_record own_record(struct dice *d, const struct mood *m, const struct locktable *t, unsigned thread)
 {
     unsigned what = roll(d, 100);
-    struct locktable_record e = { P, (uint8_t)thread, (uint8_t)roll(d, m->resources), 0 };
+    struct locktable_record e = { LOCKTABLE_P, (uint8_t)thread, (uint8_t)roll(d, m->resources), 0 };
     if (what < 28)
-        e.kind = V, e.argument = (uint8_t)held_resource(d, t, thread);
+        e.kind = LOCKTABLE_V, e.argument = (uint8_t)held_resource(d, t, thread);
     else if (what < 30)
-        e.kind = V;
+        e.kind = LOCKTABLE_V;
     else if (what < 45)
-        e.kind = SET, e.argument = draw_priority(d, m);
+        e.kind = LOCKTABLE_SET, e.argument = draw_priority(d, m);
     else if (what < 52)
-        e.kind = EXIT, e.argument = 0;
+        e.kind = LOCKTABLE_EXIT, e.argument = 0;
     else if (what < 75)
         e.argument = (uint8_t)taken_resource(d, m, t, thread);
     return e;
@@ -105,7 +105,7 @@ struct locktable_record draw_record(struct dice *d, const struct mood *m, const 
 {
     if (chance(d, m->junk_percent))
         return junk_record(d);
-    if (running >= THREADS || chance(d, 25))
+    if (running >= LOCKTABLE_THREADS || chance(d, 25))
         return create_record(d, m, t);
     return own_record(d, m, t, chance(d, 97) ? running : roll(d, m->threads));
 }
@@ -113,7 +113,7 @@ struct locktable_record draw_record(struct dice *d, const struct mood *m, const 
 struct locktable_record draw_busy_record(struct dice *d, const struct mood *m, const struct locktable *t, unsigned running)
 {
     unsigned live = 0;
-    for (int i = 0; i < THREADS; i++)
+    for (int i = 0; i < LOCKTABLE_THREADS; i++)
         live += t->live[i];
     return live < m->threads ? create_record(d, m, t) : own_record(d, m, t, running);
 }
@@ -123,7 +123,9 @@ void damage(struct dice *d, struct locktable *t)
     uint8_t *bytes = (uint8_t *)t;
     for (unsigned left = 1 + roll(d, 4); left > 0; left--) {
         /* Half of the damage away from the queues, which are most of the bytes. */
-        unsigned at = chance(d, 50) ? roll(d, sizeof *t) : chance(d, 85) ? roll(d, 226) : sizeof *t - 1 - roll(d, RESOURCES);
+        unsigned at = roll(d, sizeof *t);
+        if (chance(d, 50))
+            at = chance(d, 85) ? roll(d, offsetof(struct locktable, queue)) : offsetof(struct locktable, length) + roll(d, LOCKTABLE_RESOURCES);
         switch (roll(d, 4)) {
         case 0: bytes[at] = (uint8_t)roll(d, 256); break;
         case 1: bytes[at] ^= (uint8_t)(1u << roll(d, 8)); break;
@@ -137,7 +139,7 @@ void damage(struct dice *d, struct locktable *t)
 static void make_slots(struct dice *d, const struct mood *m, struct locktable *t)
 {
     unsigned start = 1 + roll(d, 65000), gap = 1 + roll(d, 16), next = roll(d, start), dead_percent = chance(d, 50) ? 0 : 10;
-    t->clock = (uint16_t)(start + 32 * gap);
+    t->clock = (uint16_t)(start + LOCKTABLE_THREADS * gap);
     for (unsigned i = 0, at = roll(d, m->threads); i < m->threads; i++, at = (at + 7) % m->threads) {
         if (t->live[at] || chance(d, dead_percent))
             continue;
@@ -150,15 +152,15 @@ static void make_slots(struct dice *d, const struct mood *m, struct locktable *t
 
 static void put(struct locktable *t, unsigned resource, unsigned thread)
 {
-    uint8_t *queue = t->queue + PLACES * resource;
-    if (t->length[resource] == PLACES || memchr(queue, (int)thread, t->length[resource]) != 0)
+    uint8_t *queue = t->queue + first_place(resource);
+    if (t->length[resource] == LOCKTABLE_THREADS || memchr(queue, (int)thread, t->length[resource]) != 0)
         return;
     queue[t->length[resource]++] = (uint8_t)thread;
 }
 
 static void swap_entries(struct locktable *t, unsigned resource, unsigned a, unsigned b)
 {
-    uint8_t *queue = t->queue + PLACES * resource, kept = queue[a];
+    uint8_t *queue = t->queue + first_place(resource), kept = queue[a];
     queue[a] = queue[b];
     queue[b] = kept;
 }
@@ -172,14 +174,14 @@ static void kill(struct locktable *t, unsigned thread)
 /* Of dead slots, lives, spare places and lengths: nothing else depends on them. */
 static void break_a_plain_rule(struct dice *d, struct locktable *t, unsigned thread, unsigned resource)
 {
-    unsigned length = t->length[resource], spare = PLACES * resource + length + roll(d, PLACES - length);
+    unsigned length = t->length[resource], spare = first_place(resource) + length + roll(d, LOCKTABLE_THREADS - length);
     switch (roll(d, 6)) {
     case 0: t->priority[thread] = t->current_priority[thread] = (uint8_t)roll(d, 256); break;
     case 1: t->time[thread] = t->current_time[thread] = (uint16_t)roll(d, t->clock + 1u); break;
     case 2: t->live[thread] = (uint8_t)(t->live[thread] + 2 * roll(d, 128)); break;
     case 3: t->queue[spare] = (uint8_t)(1 + roll(d, 255)); break;
     case 4: t->length[resource] = (uint8_t)(length + roll(d, 256 - length)); break;
-    default: t->current_time[thread] = t->time[roll(d, THREADS)]; break;
+    default: t->current_time[thread] = t->time[roll(d, LOCKTABLE_THREADS)]; break;
     }
 }
 
@@ -188,10 +190,10 @@ static void break_a_queue_rule(struct dice *d, struct locktable *t, unsigned thr
 {
     unsigned length = t->length[resource], place = roll(d, length > 0 ? length : 1);
     switch (roll(d, 5)) {
-    case 0: t->time[thread] = t->time[roll(d, THREADS)]; break;
+    case 0: t->time[thread] = t->time[roll(d, LOCKTABLE_THREADS)]; break;
     case 1: t->clock = (uint16_t)(t->time[thread] + roll(d, 2)); break;
     case 2: put(t, resource, thread); break;
-    case 3: kill(t, length > 0 ? t->queue[PLACES * resource + place] : thread); break;
+    case 3: kill(t, length > 0 ? t->queue[first_place(resource) + place] : thread); break;
     default: swap_entries(t, resource, place, roll(d, length > 0 ? length : 1)); break;
     }
     model_set_currents(t);
@@ -199,11 +201,11 @@ static void break_a_queue_rule(struct dice *d, struct locktable *t, unsigned thr
 
 void break_a_rule(struct dice *d, struct locktable *t)
 {
-    unsigned thread = roll(d, THREADS), resource = roll(d, RESOURCES);
+    unsigned thread = roll(d, LOCKTABLE_THREADS), resource = roll(d, LOCKTABLE_RESOURCES);
     /* A queue that is in use, if one comes up soon. */
     for (int i = 0; i < 8 && t->length[resource] == 0; i++)
-        resource = roll(d, RESOURCES);
-    if (t->length[resource] == PLACES || chance(d, 50))
+        resource = roll(d, LOCKTABLE_RESOURCES);
+    if (t->length[resource] == LOCKTABLE_THREADS || chance(d, 50))
         break_a_queue_rule(d, t, thread, resource);
     else
         break_a_plain_rule(d, t, thread, resource);
@@ -223,7 +225,7 @@ void make_table(struct dice *d, const struct mood *m, struct locktable *t)
     for (unsigned i = 0; i < m->threads; i++) {
         unsigned r = roll(d, m->resources);
         for (unsigned times = roll(d, 60) == 0 ? 2 : 1; times > 0; times--, r = (r + 1) % m->resources)
-            if (t->live[i] && chance(d, 80) && t->length[r] > 0 && (circles || t->queue[PLACES * r] > i))
+            if (t->live[i] && chance(d, 80) && t->length[r] > 0 && (circles || t->queue[first_place(r)] > i))
                 put(t, r, i);
     }
     model_set_currents(t);
@@ -238,22 +240,22 @@ static void shuffle(struct dice *d, uint8_t *ids, unsigned n)
     }
 }
 
-void make_chain(struct dice *d, unsigned length, unsigned waiting_percent, struct locktable *t, struct chain *c)
+void make_chain(struct dice *d, unsigned length, unsigned waiting_percent, unsigned gap, struct locktable *t, struct chain *c)
 {
     memset(t, 0, sizeof *t);
-    shuffle(d, c->thread, THREADS);
-    shuffle(d, c->resource, RESOURCES);
-    t->clock = 100;
-    for (unsigned i = 0; i < THREADS; i++) {
+    shuffle(d, c->thread, LOCKTABLE_THREADS);
+    shuffle(d, c->resource, LOCKTABLE_RESOURCES);
+    t->clock = (uint16_t)(LOCKTABLE_THREADS * gap);
+    for (unsigned i = 0; i < LOCKTABLE_THREADS; i++) {
         t->live[c->thread[i]] = 1;
-        t->priority[c->thread[i]] = i == 31 ? 255 : (uint8_t)roll(d, 255);
-        t->time[c->thread[i]] = (uint16_t)i;
+        t->priority[c->thread[i]] = i == LAST_THREAD ? 255 : (uint8_t)roll(d, 255);
+        t->time[c->thread[i]] = (uint16_t)(i * gap);
     }
     for (unsigned i = 0; i < length; i++)
         put(t, c->resource[i], c->thread[i]);
     for (unsigned i = 1; i < length; i++)
         put(t, c->resource[i - 1], c->thread[i]);
-    for (unsigned i = length; i < 31; i++)
+    for (unsigned i = length; i < LAST_THREAD; i++)
         if (chance(d, waiting_percent))
             put(t, c->resource[roll(d, length)], c->thread[i]);
     model_set_currents(t);

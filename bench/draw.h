@@ -25,9 +25,11 @@ void break_a_rule(struct dice *d, struct locktable *t);
 /* A table that no history need lead to: mostly sound; at times a circle, a thread waiting twice, or equal times. */
 void make_table(struct dice *d, const struct mood *m, struct locktable *t);
 /* A sound table of 32 live threads: thread[i] holds resource[i] and waits for resource[i - 1], up to the length; of the others so many of a
-   hundred wait somewhere in the chain. thread[31] waits for nothing, holds nothing and is the highest, so it runs. */
-struct chain { uint8_t thread[32], resource[16]; };
-void make_chain(struct dice *d, unsigned length, unsigned waiting_percent, struct locktable *t, struct chain *c);
+   hundred wait somewhere in the chain. The last thread waits for nothing, holds nothing and is the highest, so it runs. Set times are `gap`
+   apart, at most 2,000. */
+enum { LAST_THREAD = LOCKTABLE_THREADS - 1, LAST_RESOURCE = LOCKTABLE_RESOURCES - 1 };
+struct chain { uint8_t thread[LOCKTABLE_THREADS], resource[LOCKTABLE_RESOURCES]; };
+void make_chain(struct dice *d, unsigned length, unsigned waiting_percent, unsigned gap, struct locktable *t, struct chain *c);
 void fill_with_noise(struct dice *d, struct locktable *t);
 
 #endif

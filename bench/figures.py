@@ -10,10 +10,12 @@ WORKLOADS = {
     'live_2': 'busy history, 2 live threads',
     'live_8': 'busy history, 8 live threads',
     'live_32': 'busy history, 32 live threads',
-    'chain_32': 'chain of sixteen holders, rising ids, growing to 32 live threads',
+    'rising_32': 'chain of sixteen holders, rising ids, growing to 32 live threads',
     'falling_32': 'the same chain, falling ids',
+    'falling_apart_32': 'the same chain, falling ids, set times 64 apart',
     'crowd_32': '31 threads wait at one resource, growing to 32 live threads',
     'chains_32': '1,000 made chains of sixteen holders, 32 live threads',
+    'chains_apart_32': '1,000 such chains, set times 64 apart',
     'made_32': 'one event on each of 2,000 made tables, 29 to 32 live threads',
 }
 KINDS = {
@@ -21,6 +23,8 @@ KINDS = {
     'v_last': 'V, nobody waits', 'v_heir': 'V, somebody waits', 'refused': 'refused',
 }
 CALLS = ['step', 'running', 'thread', 'resource', 'empty']
+# The test whether a table is sound: a function of its own on either side, and every call but `empty` makes it once.
+OUR_TEST, FAST_TEST = 'table::check::check', 'fast_look'
 # A plain C version, measured the same way: what is known of it.
 PLAIN = {('small', 'mean'): 4000, ('contended', 'mean'): 4400, ('chain_of_16', 'worst'): 8500}
 MOST_TO_C, MOST_AT_32, MOST_STACK = 1.4, 12000, 5120
@@ -32,8 +36,10 @@ def read_counts(path):
     for line in open(path):
         w = line.split()
         if w[0] == 'function' and int(w[3]) > 0:
-            jump = 1 if w[1].split('_', 1)[1] in KINDS else 0
+            jump = 1 if w[1].partition('_')[2] in KINDS else 0
             found[w[1]] = {'times': int(w[3]), 'mean': float(w[7]) - jump, 'worst': int(w[11]) - jump, 'stack': int(w[15])}
+    if OUR_TEST not in found or found[OUR_TEST]['times'] != found[FAST_TEST]['times']:
+        sys.exit(f'figures.py: {path}: {OUR_TEST} and {FAST_TEST} were not called equally often; is one inlined, or renamed?')
     return found
 
 
@@ -61,12 +67,21 @@ def pair(ours, fast):
 PAIR_HEAD = ['mean', 'fast.c', 'times', 'worst', 'fast.c', 'times']
 
 
-def call_table(counts, call):
+def history_table(counts, ours, fast):
+    """Two functions beside each other, a row for each history."""
     rows = []
     for name, words in WORKLOADS.items():
         c = counts[name]
-        rows.append([words, number(c['locktable_' + call]['times'])] + pair(c['locktable_' + call], c['fast_' + call]))
+        rows.append([words, number(c[ours]['times'])] + pair(c[ours], c[fast]))
     return table(['', 'calls'] + PAIR_HEAD, rows)
+
+
+def query_table(counts):
+    rows = []
+    for name in ('live_2', 'live_8', 'live_32'):
+        for call in ('running', 'thread', 'resource'):
+            rows.append([f'`locktable_{call}`, {WORKLOADS[name]}'] + pair(counts[name]['locktable_' + call], counts[name]['fast_' + call]))
+    return table([''] + PAIR_HEAD, rows)
 
 
 def kind_table(counts):
@@ -118,7 +133,7 @@ def verdict(counts, rows):
         return 'All are met.'
     words = [f"""**{unmet} of {len(rows)} are not met.** The step is a function from a table to a table, as it is proved, and the thin call stores its result, so the
 table is copied in and out, which C that changes bytes in place does not do. `docs/DECISIONS.md` says what was tried."""]
-    rising, falling = (counts[name]['locktable_running']['worst'] for name in ('chain_32', 'falling_32'))
+    rising, falling = (counts[name][OUR_TEST]['worst'] for name in ('rising_32', 'falling_32'))
     if falling > 1.2 * rising:
         words.append(f"""The order of ids matters: on the same chain the soundness test takes {number(rising)} at worst with rising ids and
 {number(falling)} with falling ones.""")
@@ -126,12 +141,12 @@ table is copied in and out, which C that changes bytes in place does not do. `do
 
 
 def beside_plain(counts):
-    """The plain C version's figures, which are few."""
+    """The plain C version's figures, each with how many times as much ours is."""
     parts = []
     for (name, what), plain in PLAIN.items():
         ours = counts[name]['locktable_step'][what]
-        parts.append(f'{number(plain)} {what} on `{name}`, ours is {ours / plain:.2f} times that')
-    return ';\n'.join(parts)
+        parts.append(f'{number(plain)} {what} on `{name}` (ours is {ours / plain:.2f} times that)')
+    return ',\n'.join(parts)
 
 
 PAGE = """# Figures
@@ -141,10 +156,13 @@ C library's memcpy in its SSE2 form. They depend on the compiler and not on the 
 lies. Kit: `{version}`.
 
 "Ours" is the linked library, called as in `include/locktable.h`. `fast.c` is the same calls in C, written for a kernel and compiled by the same
-clang at the same settings; both ran in the same process on the same events, and their tables were equal after each. Of a
-plain C version four figures are known:
-{plain};
+clang at the same settings; both ran in the same process on the same events, and their tables were equal after each. A plain C version that is not
+in this tree was measured at
+{plain},
 and 560 bytes of stack.
+
+What is counted: in a busy history accepted events only. The vectors and the made tables have refused ones too, which the tables by kind of event
+show apart. Set times 64 apart share a mark in the library's test whether they differ, so that it compares each with all others.
 
 ## Against the goals
 
@@ -156,15 +174,23 @@ and 560 bytes of stack.
 {step}
 ## The test whether the table is sound
 
-As the query for the running thread shows it: the test, and the search for who runs.
+The test alone: the function `table::check::check` of the library, and `fast_look` in `fast.c`, which is kept out of line for this. Both also work out
+what the rest of a call needs. Every call makes it once: the step on the table before the event, and the three queries, asked after each event, on
+the table after it.
 
 {sound}
+## The queries
+
+The test, and what is asked for. Ours copies the table once before that, since the query that is proved takes it by value.
+
+{queries}
 ## The step by kind of event
 
 {kinds}## Stack
 
 Bytes below the call's return address, callees included. Touched: down to the lowest byte that any of these runs touched, the red zone of the
-deepest function with it. Frames: pushes and frames on the deepest way, by the machine code, without a red zone.
+deepest function with it. Frames: pushes and frames on the deepest way, by the machine code, without a red zone. The 560 bytes of the plain C version
+are to be compared with the frames of `fast.c`'s step, {fast_frames}.
 
 {stack}
 ## Commands
@@ -175,9 +201,10 @@ or by hand, after it has built the programs once:
 
     bench/count -s -f locktable_step -f fast_step target/bench/cost vector crates/drill_vectors/data/small.in
     bench/count -s -f locktable_step -f fast_step target/bench/cost live 32 3000
+    bench/count -f table::check::check -f fast_look target/bench/cost chain falling 64
     bench/stack target/bench/cost
 
-`bench/count` with `-f ours_p_taken -f fast_p_taken` and so on gives one kind; `bench/cost.c` lists the histories.
+`bench/count` with `-f ours_p_taken -f fast_p_taken` and so on gives one kind; `usage` in `bench/cost.c` lists the histories.
 """
 
 
@@ -189,8 +216,9 @@ def page(counts, depths, version):
     touched = most_touched(counts)
     rows = goals(counts, touched)
     return PAGE.format(version=version, plain=beside_plain(counts), verdict=verdict(counts, rows),
-                       goals=table(['', 'ours', 'at most', 'which is', 'met'], rows), step=call_table(counts, 'step'),
-                       sound=call_table(counts, 'running'), kinds=kind_tables(counts) + '\n', stack=stack_table(touched, depths))
+                       goals=table(['', 'ours', 'at most', 'which is', 'met'], rows), step=history_table(counts, 'locktable_step', 'fast_step'),
+                       sound=history_table(counts, OUR_TEST, FAST_TEST), queries=query_table(counts), kinds=kind_tables(counts) + '\n',
+                       stack=stack_table(touched, depths), fast_frames=number(depths['fast_step']))
 
 
 def main(folder):

@@ -1,10 +1,19 @@
 /* The lock table: a priority inheritance protocol for one processor.
  *
  * You keep the only table and lend it to each call. It must be a whole `struct locktable` that nobody else touches during the call. What bytes
- * it holds does not matter: a table that isn't sound is refused. No call keeps the pointer, allocates or waits, and each comes to an end. What
- * stands here above a call is proved of it, for every table and every argument (crates/kernel/src/lib.rt); the words are document 01's.
+ * it holds does not matter: a table that isn't sound is refused. No call keeps the pointer, allocates or waits, and each comes to an end.
  *
- * For C11 or C++11 on x86-64. Link libkernel.a: it wants memcpy and memset, and uses the SSE registers and the stack's red zone. */
+ * For C11 or C++11 on x86-64; link libkernel.a (README.md, "From C"). A call needs of its caller:
+ *   - memcpy and memset;
+ *   - the stack aligned to 16 bytes, as the ABI of x86-64 has it, since the library stores there by aligned SSE instructions: a kernel that is
+ *     compiled for a boundary of 8 (-mpreferred-stack-boundary=3) would fault;
+ *   - SSE2 switched on, and the registers xmm0 to xmm15 saved by whoever still needs what they hold;
+ *   - up to 3 KiB of stack (measured; bench/FIGURES.md). The red zone is used, the 128 bytes below the stack pointer: no interrupt may write there.
+ *
+ * What this file says of the calls is proved, for every table and every argument: in crates/kernel/src/lib.rt that a call does to the lent table
+ * what the function does that has it by value; in crates/locks/src what that function answers and makes of the table (step.rt, queries.rt), in
+ * the terms that crates/locks/specs and crates/table/specs define; in crates/locks/proofs that an accepted event leaves a sound table
+ * (StaysSound.antt) and that a count is at most 16 (Sixteen.antt). What a caller needs, above, and the layout, below, are not proved. */
 #ifndef LOCKTABLE_H
 #define LOCKTABLE_H
 
@@ -21,41 +30,41 @@ extern "C" {
 #define LOCKTABLE_NOBODY 32    /* stands for no thread */
 #define LOCKTABLE_NOTHING 16   /* stands for no resource */
 
-/* The kinds of event. All but Create are the running thread's own. */
-enum locktable_kind {
-    LOCKTABLE_CREATE = 1, /* the thread becomes live; argument: its priority */
-    LOCKTABLE_EXIT = 2,   /* its slot becomes zero; argument: 0 */
-    LOCKTABLE_SET = 3,    /* new own priority, set now; argument: the priority */
-    LOCKTABLE_P = 4,      /* request; argument: the resource */
-    LOCKTABLE_V = 5       /* release; argument: the resource */
-};
-
-/* The number in an answer: accepted, or why not. The lowest that applies is given. */
-enum locktable_number {
-    LOCKTABLE_ACCEPTED = 0,
-    LOCKTABLE_NOT_SOUND = 1,      /* the table isn't sound */
-    LOCKTABLE_NO_SUCH_KIND = 2,   /* kind is not 1 to 5 */
-    LOCKTABLE_NO_SUCH_THREAD = 3, /* thread above 31 */
-    LOCKTABLE_MALFORMED = 4,      /* resource above 15; Exit with an argument other than 0; fourth byte not 0 */
-    LOCKTABLE_CLOCK_RUN_OUT = 5,  /* the clock is 65,535 */
-    LOCKTABLE_ALREADY_LIVE = 6,   /* Create of a live thread */
-    LOCKTABLE_NOT_LIVE = 7,       /* another event, or a query, of a thread that isn't live */
-    LOCKTABLE_NOT_RUNNING = 8,    /* another event of a live thread that isn't running */
-    LOCKTABLE_CIRCLE = 9,         /* P where a chain leads from the resource to the requester; holding it already is one */
-    LOCKTABLE_NOT_HOLDER = 10,    /* V of a resource that the thread doesn't hold */
-    LOCKTABLE_STILL_HOLDS = 11    /* Exit while holding any resource */
-};
-
-/* The table. Read it if you like, by the queries better; only locktable_step and locktable_empty should write it. */
+/* Own precedence is how urgent a thread is by itself: its priority, and the time when that was last set. The greater priority is the higher
+ * precedence, and between equal priorities the one that was set first.
+ * Current precedence is how urgent it is for the sake of others too: where somebody is blocked behind it, at what it holds or further down a
+ * chain of holders who wait, it is the highest own precedence among all these and itself. Otherwise it is its own.
+ * Ready is a live thread that doesn't wait. Running is, of the ready threads, the one whose current precedence is the highest; in a sound table
+ * with any live thread there is just one.
+ *
+ * The table. Read it if you like, by the queries better; only locktable_step and locktable_empty should write it. */
 struct locktable {
-    uint16_t clock;                               /* the number of accepted events */
-    uint8_t live[LOCKTABLE_THREADS];              /* 1, or 0 and then the slot is zero everywhere */
-    uint8_t priority[LOCKTABLE_THREADS];          /* own priority, a higher number is higher */
-    uint16_t time[LOCKTABLE_THREADS];             /* the time of the last Create or Set; of equal priorities the earlier is higher */
-    uint8_t current_priority[LOCKTABLE_THREADS];  /* current precedence: the highest own one among the thread */
-    uint16_t current_time[LOCKTABLE_THREADS];     /* and all who wait, directly or through others, for what it holds */
+    uint16_t clock;                               /* how many events were accepted, and the time of the next one */
+    uint8_t live[LOCKTABLE_THREADS];              /* 1 for a live thread, else 0 */
+    uint8_t priority[LOCKTABLE_THREADS];          /* own precedence: the priority */
+    uint16_t time[LOCKTABLE_THREADS];             /* and when a Create or Set gave it */
+    uint8_t current_priority[LOCKTABLE_THREADS];  /* current precedence: the same two */
+    uint16_t current_time[LOCKTABLE_THREADS];
     uint8_t queue[LOCKTABLE_RESOURCES * LOCKTABLE_THREADS]; /* 32 places a resource: the holder, then who waits, by arrival */
-    uint8_t length[LOCKTABLE_RESOURCES];          /* how many of a resource's places are taken; the others are zero */
+    uint8_t length[LOCKTABLE_RESOURCES];          /* how many of a resource's places are taken */
+};
+
+/* A table is sound if all of this holds:
+ *   - live is 0 or 1 for each thread, and where it is 0 the thread's other four numbers are 0 too;
+ *   - each live thread's time is below the clock, and no two have the same;
+ *   - no length is above 32, and the places that a length leaves over are 0;
+ *   - only live threads stand in a queue, nobody twice in one, and nobody waits in more than one;
+ *   - nobody waits for itself, be it through a chain of others;
+ *   - the current precedence in the table is, for each live thread, the one that is described above.
+ * The empty table is sound, and an event that is accepted leaves a sound table. */
+
+/* The kinds of event. Create may come from anyone, the others only from the running thread. "Now" is the clock before the event. */
+enum locktable_kind {
+    LOCKTABLE_CREATE = 1, /* a thread that isn't live becomes so, its priority (the argument) set now; an id may come back after its Exit */
+    LOCKTABLE_EXIT = 2,   /* the thread, which holds nothing, is live no more, and all its numbers become 0; the argument is 0 */
+    LOCKTABLE_SET = 3,    /* the argument becomes its priority, set now, even if it was the same before */
+    LOCKTABLE_P = 4,      /* it requests a resource (the argument): it joins the end of the queue, and so holds the resource if that was free */
+    LOCKTABLE_V = 5       /* it releases one: of those who wait the one of highest own precedence becomes holder, the rest keep their order */
 };
 
 /* An event: four bytes, the last of them 0. */
@@ -63,8 +72,26 @@ struct locktable_record {
     uint8_t kind, thread, argument, zero;
 };
 
-/* number: an enum locktable_number. running: the running thread of the table afterwards, or LOCKTABLE_NOBODY. count: how many threads had
- * their current precedence worked out afresh, never above 16. */
+/* The number in an answer: accepted, or why not. Where several apply it is the lowest. */
+enum locktable_number {
+    LOCKTABLE_ACCEPTED = 0,
+    LOCKTABLE_NOT_SOUND = 1,      /* the table isn't sound */
+    LOCKTABLE_NO_SUCH_KIND = 2,   /* the kind is none of the five */
+    LOCKTABLE_NO_SUCH_THREAD = 3, /* the thread is above 31 */
+    LOCKTABLE_MALFORMED = 4,      /* P, V or a query of a resource above 15; Exit with an argument that isn't 0; a fourth byte that isn't 0 */
+    LOCKTABLE_CLOCK_RUN_OUT = 5,  /* the table has accepted all its 65,535 events */
+    LOCKTABLE_ALREADY_LIVE = 6,   /* Create of a live thread */
+    LOCKTABLE_NOT_LIVE = 7,       /* any other event, or a query, of a thread that isn't live */
+    LOCKTABLE_NOT_RUNNING = 8,    /* any event but Create of a live thread that isn't the running one */
+    LOCKTABLE_CIRCLE = 9,         /* P by the holder, or where the holder waits, be it through a chain of others, for the thread that asks */
+    LOCKTABLE_NOT_HOLDER = 10,    /* V by a thread that isn't the holder */
+    LOCKTABLE_STILL_HOLDS = 11    /* Exit by a thread that holds any resource */
+};
+
+/* number: an enum locktable_number. running: the running thread of the table afterwards, or LOCKTABLE_NOBODY. count: for how many threads the
+ * current precedence was worked out anew, 0 to 16. Create and Set: 1. Exit: 0. V: 2 if somebody takes over, for both of them, else 0. P: 0 if
+ * the resource was free; else one for its holder, one for the holder whom that one waits for, and so on up. The last to be counted is the
+ * first whose current precedence the request leaves alone, or else the one at the top, who doesn't wait. */
 struct locktable_answer {
     uint8_t number, running, count;
 };
@@ -85,23 +112,24 @@ struct locktable_resource_answer {
     uint8_t number, holder, waiters;
 };
 
-/* A shipment starts: whatever the table held, all its numbers are zero afterwards and nobody is live. That table is sound. */
+/* To begin with: whatever the table held, all its numbers are 0 afterwards and nobody is live. */
 void locktable_empty(struct locktable *t);
 
-/* One event, as one whole step. Accepted: the table is changed as document 01 says for that event, every live thread's current precedence is
- * the defined one, the clock is 1 higher, and the table is sound again. Refused: the table is as it was, the count is 0, and the running
- * thread is that table's, except that LOCKTABLE_NOT_SOUND reports LOCKTABLE_NOBODY. */
+/* One event, as one whole step. Accepted: the table is changed as is said above for that kind of event, then every live thread's current
+ * precedence is the one described, the clock is 1 higher, and the table is sound again. Refused: the table is as it was, the count is 0, and
+ * the running thread is that table's, except that LOCKTABLE_NOT_SOUND reports LOCKTABLE_NOBODY. */
 struct locktable_answer locktable_step(struct locktable *t, struct locktable_record e);
 
-/* Queries change nothing. Who runs: 0 with the ready thread of highest current precedence, or LOCKTABLE_NOBODY if nobody is live.
- * Refused with 1, and LOCKTABLE_NOBODY. */
+/* Queries change nothing. Who runs: 0 with the running thread, or LOCKTABLE_NOBODY if nobody is live.
+ * Refused with LOCKTABLE_NOT_SOUND, and LOCKTABLE_NOBODY. */
 struct locktable_running_answer locktable_running(const struct locktable *t);
 
 /* A thread: 0 with its own priority, the time it was last set, its current precedence and the resource it waits for, or LOCKTABLE_NOTHING.
- * Refused with 1, 3 or 7, and zeros. */
+ * Refused with LOCKTABLE_NOT_SOUND, LOCKTABLE_NO_SUCH_THREAD or LOCKTABLE_NOT_LIVE, and zeros. */
 struct locktable_thread_answer locktable_thread(const struct locktable *t, uint8_t thread);
 
-/* A resource: 0 with its holder, or LOCKTABLE_NOBODY if it is free, and the number of waiters. Refused with 1 or 4, and zeros. */
+/* A resource: 0 with its holder, or LOCKTABLE_NOBODY if it is free, and the number of waiters.
+ * Refused with LOCKTABLE_NOT_SOUND or LOCKTABLE_MALFORMED, and zeros. */
 struct locktable_resource_answer locktable_resource(const struct locktable *t, uint8_t resource);
 
 /* The archive was compiled for this layout. (_Static_assert is C's own name: <assert.h> need not be there in a kernel.) */
