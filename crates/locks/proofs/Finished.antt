@@ -6,7 +6,6 @@ use mathlib.Core.List.{List}
 use native.Mathlib.Decide.{ℕ-discrete}
 use native.Mathlib.Omega.{arith}
 use borrow.Author.Tests.{eq-eqb, ne-eqb}
-use lib.ListN.{length}
 use Rattle.protocol.specs.Sets.{_∈_}
 use Rattle.protocol.specs.Events.{Precedence}
 use Rattle.protocol.specs.Rank.{rank}
@@ -21,7 +20,7 @@ use Rattle.table.specs.Compute.{current, runner}
 use Rattle.table.proofs.Soundness.{sound-orderly}
 use Rattle.locks.specs.Events.{settled, tabulate}
 use Rattle.locks.specs.Changed.{with-current}
-use Rattle.locks.specs.Work.{time-in, Tracked}
+use Rattle.locks.specs.Work.{time-in, Tracked, Stored-of}
 use Rattle.locks.proofs.OfSound.{waited}
 use Rattle.locks.proofs.Bridge.{runner-is}
 use Rattle.locks.proofs.Tabulate.{tabulate-at}
@@ -58,16 +57,15 @@ module _ (t : Table) (shape : Shape t) (s : Sound (settled t)) {waits currents :
       go (no n) = rw (dead-number th h n) (omega arith)
 
   -- what is stored from the numbers makes the settled table
-  pub stored-settled : (cp ct : List ℕ) → length cp ≡ 32 → length ct ≡ 32 → ((th : ℕ) → th < 32 → at cp th ≡ at currents th / 65536) → ((th : ℕ) → th < 32 → at ct th ≡ time-in (at currents th)) →
-      with-current t cp ct ≡ settled t
-  stored-settled cp ct m n priorities times = settles t shape cp ct m n alive dead
+  pub stored-settled : (cp ct : List ℕ) → Stored-of currents cp ct → with-current t cp ct ≡ settled t
+  stored-settled cp ct m = settles t shape cp ct (m .priorities-size) (m .times-size) alive dead
     where
       alive : (th : ℕ) → th < 32 → th ∈ live t → (at cp th, at ct th) ≡ current t th
       alive th h l = let b = number-back (current t th) (current-low th l .1) in let e = live-number th h l in
-          Σ-path (priorities th h ∙ ap (λ (n : ℕ). n / 65536) e ∙ b .0) (times th h ∙ ap time-in e ∙ b .1)
+          Σ-path (m .priorities-right th h ∙ ap (λ (n : ℕ). n / 65536) e ∙ b .0) (m .times-right th h ∙ ap time-in e ∙ b .1)
 
       dead : (th : ℕ) → th < 32 → ¬ (th ∈ live t) → (at cp th ≡ 0) × (at ct th ≡ 0)
-      dead th h n = let e = dead-number th h n in (priorities th h ∙ ap (λ (m : ℕ). m / 65536) e, times th h ∙ ap time-in e)
+      dead th h n = let e = dead-number th h n in (m .priorities-right th h ∙ ap (λ (k : ℕ). k / 65536) e, m .times-right th h ∙ ap time-in e)
 
   -- the number of a slot's own precedence
   abbrev own-slot : ℕ → ℕ

@@ -3,7 +3,6 @@ use Prim.Native.Nat.{ℕ, _+_, _/_, _≤_, _<_}
 use mathlib.Core.Path.{_≡_, refl, sym, ap, subst, _∙_}
 use mathlib.Core.Bool.{Bool, true, false}
 use mathlib.Core.List.{List}
-use mathlib.Core.Logic.{_≢_}
 use native.Mathlib.Decide.{ℕ-discrete}
 use native.Mathlib.Omega.{arith}
 use lib.ListN.{length, set}
@@ -19,11 +18,11 @@ use Rattle.locks.specs.declared.Done.{Done}
 use Rattle.locks.specs.declared.slots.Slot.{Slot}
 use Rattle.locks.specs.Events.{settled, with-slot, with-queue}
 use Rattle.locks.specs.Refusals.{refusals, lowest}
-use Rattle.locks.specs.Refusing.{Lent}
+use Rattle.locks.specs.Refusing.{Lent, Judged}
 use Rattle.locks.specs.Answers.{accepted, applied, answerOf}
 use Rattle.locks.specs.Changed.{slot-after, changed, with-current}
 use Rattle.locks.specs.Rows.{Requeues}
-use Rattle.locks.specs.Work.{time-in, Tracked, Worked}
+use Rattle.locks.specs.Work.{Tracked, Worked, Stored-of}
 use Rattle.locks.proofs.Bridge.{sound-is, waits-is, runner-is}
 use Rattle.locks.proofs.Found.{found-sound}
 use Rattle.locks.proofs.Finished.{numbers-low, stored-settled, runner-settled}
@@ -31,11 +30,6 @@ use Rattle.locks.proofs.Admitted.{Admitted, admitted}
 use Rattle.locks.proofs.StaysSound.{stays-sound}
 use Rattle.locks.proofs.Answered.{not-sound, turned-down, let-through}
 use Rattle.locks.proofs.CarriedOut.{changed-slot, changed-request, changed-release, changed-shape}
-
--- The answer before any event is done: on a table that isn't sound and for a refused record it stands, and otherwise its number is 0.
-pub record Judged (t : Table) (e : Record) (sound : Bool) (a : Answer) : Type 0 where
-  pub stands : a .number ≢ 0 → record { answer = a; table = t } ≡ answerOf t e
-  pub passes : a .number ≡ 0 → (sound ≡ true) × (lowest (refusals t e) ≡ 0)
 
 module _ (t : Table) (e : Record) {b : Bool} {waits owns currents : List ℕ} (k : Checked-right t b waits owns currents) (a : Answer) where
   pub judged-unsound : b ≡ false → a ≡ record { number = 1; running = 32; count = 0 } → Judged t e b a
@@ -45,8 +39,8 @@ module _ (t : Table) (e : Record) {b : Bool} {waits owns currents : List ℕ} (k
   }
 
   module _ (s : b ≡ true) where
-    pub lent : Lent t (t .queue) (t .length) waits
-    lent = record { queue-is = refl; length-is = refl; shape = k .shape; sound = k .passed s; waits-right = waits-is t k s }
+    pub lent : {queue length : List ℕ} → t .queue ≡ queue → t .length ≡ length → Lent t queue length waits
+    lent q l = record { queue-is = q; length-is = l; shape = k .shape; sound = k .passed s; waits-right = waits-is t k s }
 
     pub runs : {r : ℕ} → r ≡ highest-ready waits currents 32 → r ≡ runner t
     runs q = q ∙ runner-is t k s
@@ -58,42 +52,42 @@ module _ (t : Table) (e : Record) {b : Bool} {waits owns currents : List ℕ} (k
           passes = λ z. (s, sym number-is ∙ sym w ∙ z);
         }
 
--- one event more
-abbrev pub later : Table → Table
-later u = table-of (u .clock + 1) (u .live) (u .priority) (u .time) (u .«current_priority») (u .«current_time») (u .queue) (u .length)
+-- one event more, with these lengths
+abbrev pub later : Table → List ℕ → Table
+later u lengths = table-of (u .clock + 1) (u .live) (u .priority) (u .time) (u .«current_priority») (u .«current_time») (u .queue) lengths
 
--- u is the table of an accepted event, but for the clock and the stored current precedences
-pub record At-work (t : Table) (e : Record) (waiting owns currents : List ℕ) (u : Table) : Type 0 where
+-- u, with these lengths, is the table of an accepted event, but for the clock and the stored current precedences
+pub record At-work (t : Table) (e : Record) (waiting owns currents : List ℕ) (u : Table) (lengths : List ℕ) : Type 0 where
   pub checked : Checked-right t true waiting owns currents
   pub unrefused : lowest (refusals t e) ≡ 0
   pub clock-is : u .clock ≡ t .clock
-  pub made : later u ≡ changed t e
+  pub made : later u lengths ≡ changed t e
 
 module _ {waiting owns currents : List ℕ} (t : Table) (e : Record) (k : Checked-right t true waiting owns currents) (z : lowest (refusals t e) ≡ 0) where
   pub admits : Admitted t e
   admits = admitted t e (k .shape) (found-sound t k) z
 
   -- Create, Set and Exit: the slot is written
-  pub slot-written : e .kind < 4 → (i : ℕ) (s : Slot) (u : Table) → i ≡ e .thread → s ≡ slot-after e (t .clock) →
+  pub slot-written : e .kind < 4 → (i : ℕ) (s : Slot) (u : Table) (lengths : List ℕ) → i ≡ e .thread → s ≡ slot-after e (t .clock) →
       u ≡ table-of (t .clock) (set (t .live) i (s .live)) (set (t .priority) i (s .priority)) (set (t .time) i (s .time)) (t .«current_priority») (t .«current_time») (t .queue) (t .length) →
-      At-work t e waiting owns currents u
+      lengths ≡ t .length → At-work t e waiting owns currents u lengths
   unfolding with-slot
-  slot-written h i s u index slot q = record {
+  slot-written h i s u lengths index slot q m = record {
     checked = k;
     unrefused = z;
     clock-is = ap (λ (v : Table). v .clock) q;
-    made = rw (q, index, slot, changed-slot t e h);
+    made = rw (q, m, index, slot, changed-slot t e h);
   }
 
   -- P and V: the queue is written
-  pub requeues : 4 ≤ e .kind → (r : ℕ) → r ≡ e .argument → Requeues t e (t .queue) owns (at (t .length) r)
-  requeues h r index = record {
+  pub requeues : 4 ≤ e .kind → Requeues t e (t .queue) (t .length) owns
+  requeues h = record {
     shape = k .shape;
     sound = found-sound t k;
     unrefused = z;
     late = h;
     queue-is = refl;
-    length-is = ap (at (t .length)) index;
+    lengths-are = refl;
     owns-right = k .owns-right;
   }
 
@@ -105,21 +99,22 @@ module _ {waiting owns currents : List ℕ} (t : Table) (e : Record) (k : Checke
       go (yes q) = rw (changed-request t e q)
       go (no n) = let q : e .kind ≡ 5 = omega (arith, admits .kind-to) in rw (changed-release t e q)
 
-  pub queue-written : 4 ≤ e .kind → (r m : ℕ) (xs : List ℕ) (u : Table) → r ≡ e .argument → (xs ≡ changed t e .queue) × (set (t .length) (e .argument) m ≡ changed t e .length) →
-      u ≡ table-of (t .clock) (t .live) (t .priority) (t .time) (t .«current_priority») (t .«current_time») xs (set (t .length) r m) → At-work t e waiting owns currents u
-  queue-written h r m xs u index j q = record {
+  pub queue-written : 4 ≤ e .kind → (xs ls : List ℕ) (u : Table) (lengths : List ℕ) → (xs ≡ changed t e .queue) × (ls ≡ changed t e .length) →
+      u ≡ table-of (t .clock) (t .live) (t .priority) (t .time) (t .«current_priority») (t .«current_time») xs (t .length) →
+      lengths ≡ ls → At-work t e waiting owns currents u lengths
+  queue-written h xs ls u lengths j q l = record {
     checked = k;
     unrefused = z;
     clock-is = ap (λ (v : Table). v .clock) q;
-    made = rw (q, index, j .0, j .1) (sym (queue-parts h));
+    made = rw (q, l, j .0, j .1) (sym (queue-parts h));
   }
 
-module _ {waiting owns currents : List ℕ} (t : Table) (e : Record) {u : Table} (w : At-work t e waiting owns currents u) where
+module _ {waiting owns currents : List ℕ} (t : Table) (e : Record) {u : Table} {lengths : List ℕ} (w : At-work t e waiting owns currents u lengths) where
   -- the clock can go on
   pub clock-low : u .clock < 65535
   clock-low = omega (arith, w .clock-is, admits t e (w .checked) (w .unrefused) .clock)
 
-  pub worked : Worked t e (u .queue) (u .length) owns waiting currents (u .clock)
+  pub worked : Worked t e (u .queue) lengths owns waiting currents (u .clock)
   worked = record {
     checked = w .checked;
     unrefused = w .unrefused;
@@ -127,33 +122,23 @@ module _ {waiting owns currents : List ℕ} (t : Table) (e : Record) {u : Table}
     now-is = w .clock-is;
   }
 
+-- What an accepted event leaves besides the slot or the queue.
+module _ {queue lengths owns waiting currents : List ℕ} {now : ℕ} (t : Table) (e : Record) (w : Worked t e queue lengths owns waiting currents now) (small : e .argument ≤ 255)
+    {waits′ currents′ : List ℕ} (n : ℕ) (right : Tracked (changed t e) waits′ currents′ × (accepted (settled (changed t e)) n ≡ applied t e)) where
   shape : Shape (changed t e)
   shape = changed-shape t e (w .checked .shape) (found-sound t (w .checked)) (admits t e (w .checked) (w .unrefused))
 
-  -- the sizes of the arrays that are stored into
-  pub priorities-size : length (u .«current_priority») ≡ 32
-  priorities-size = ap (λ (v : Table). length (v .«current_priority»)) (w .made) ∙ shape .current-priority-size
+  sound : Sound (settled (changed t e))
+  unfolding accepted
+  sound = subst (λ (d : Done). Sound (d .table)) (sym (right .1)) (stays-sound t e (w .checked .shape) (found-sound t (w .checked)) (w .unrefused) small)
 
-  pub times-size : length (u .«current_time») ≡ 32
-  times-size = ap (λ (v : Table). length (v .«current_time»)) (w .made) ∙ shape .current-time-size
+  -- every priority in the numbers is a byte
+  pub bytes : (th : ℕ) → th < 32 → at currents′ th / 65536 < 256
+  bytes = numbers-low (changed t e) shape sound (right .0)
 
-  module _ (small : e .argument ≤ 255) {waits′ currents′ : List ℕ} (n : ℕ) (right : Tracked (changed t e) waits′ currents′ × (accepted (settled (changed t e)) n ≡ applied t e)) where
-    sound : Sound (settled (changed t e))
-    unfolding accepted
-    sound = subst (λ (d : Done). Sound (d .table)) (sym (right .1)) (stays-sound t e (w .checked .shape) (found-sound t (w .checked)) (w .unrefused) small)
-
-    -- every priority in the numbers is a byte
-    pub bytes : (th : ℕ) → th < 32 → at currents′ th / 65536 < 256
-    bytes = numbers-low (changed t e) shape sound (right .0)
-
-    -- with the numbers stored, and its running thread, that is the answer
-    pub stepped : (cp ct : List ℕ) (r : ℕ) (a : Answer) → (length cp ≡ 32) × ((th : ℕ) → th < 32 → at cp th ≡ at currents′ th / 65536) → (length ct ≡ 32) × ((th : ℕ) → th < 32 → at ct th ≡ time-in (at currents′ th)) →
-        r ≡ highest-ready waits′ currents′ 32 → a ≡ record { number = 0; running = r; count = n } → record { answer = a; table = with-current (later u) cp ct } ≡ answerOf t e
-    unfolding accepted
-    stepped cp ct r a p m run q = rw (q, table-is, run ∙ runs-now) (right .1 ∙ sym (let-through t e (w .unrefused)))
-      where
-        table-is : with-current (later u) cp ct ≡ settled (changed t e)
-        table-is = ap (λ (v : Table). with-current v cp ct) (w .made) ∙ stored-settled (changed t e) shape sound (right .0) cp ct (p .0) (m .0) (p .1) (m .1)
-
-        runs-now : highest-ready waits′ currents′ 32 ≡ runner (settled (changed t e))
-        runs-now = runner-settled (changed t e) shape sound (right .0)
+  -- with the numbers stored, and its running thread, that is the answer
+  pub stepped : (cp ct : List ℕ) (r : ℕ) (a : Answer) → Stored-of currents′ cp ct → r ≡ highest-ready waits′ currents′ 32 → a ≡ record { number = 0; running = r; count = n } →
+      record { table = with-current (changed t e) cp ct; answer = a } ≡ answerOf t e
+  unfolding accepted
+  stepped cp ct r a k run q =
+      rw (q, stored-settled (changed t e) shape sound (right .0) cp ct k, run ∙ runner-settled (changed t e) shape sound (right .0)) (right .1 ∙ sym (let-through t e (w .unrefused)))

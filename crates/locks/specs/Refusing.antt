@@ -1,7 +1,8 @@
--- What the functions that give the refusal are lent, and what its parts decide. Assumes nothing.
+-- What the functions that give the refusal are lent, what its parts decide, and the answer before any event. Assumes nothing.
 use Prim.Native.Nat.{ℕ, _<_}
 use mathlib.Core.Path.{_≡_}
-use mathlib.Core.Bool.{cond, not, _&&_}
+use mathlib.Core.Bool.{Bool, true, cond, not, _&&_}
+use mathlib.Core.Logic.{_≢_}
 use mathlib.Core.List.{List}
 use lib.Dec.{eqb, leb, ltb}
 use Rattle.table.specs.declared.Table.{Table}
@@ -10,7 +11,9 @@ use Rattle.table.specs.Sound.{Sound}
 use Rattle.table.specs.Checked.{Shape}
 use Rattle.table.specs.Compute.{holder, waits-for}
 use Rattle.locks.specs.declared.Record.{Record}
-use Rattle.locks.specs.Refusals.{malformed, leads, holds-any}
+use Rattle.locks.specs.declared.Answer.{Answer}
+use Rattle.locks.specs.Refusals.{malformed, leads, holds-any, refusals, lowest}
+use Rattle.locks.specs.Answers.{answerOf}
 
 -- t is a sound table with these queues, and `waits` has what each thread waits for, 16 if nothing
 pub record Lent (t : Table) (queue length waits : List ℕ) : Type 0 where
@@ -33,3 +36,8 @@ queues-number t e =
     let from-11 : ℕ = cond (eqb (e .kind) 2 && holds-any t (e .thread)) 11 0 in
     let from-10 : ℕ = cond (eqb (e .kind) 5 && not (eqb (holder t (e .argument)) (e .thread))) 10 from-11 in
     cond (eqb (e .kind) 4 && leads t (e .argument) (e .thread)) 9 from-10
+
+-- The answer before any event is done: on a table that isn't sound and for a refused record it stands, and otherwise its number is 0.
+pub record Judged (t : Table) (e : Record) (sound : Bool) (a : Answer) : Type 0 where
+  pub stands : a .number ≢ 0 → record { table = t; answer = a } ≡ answerOf t e
+  pub passes : a .number ≡ 0 → (sound ≡ true) × (lowest (refusals t e) ≡ 0)

@@ -30,12 +30,12 @@ behind xs a q = replicate (32 - length q) 0 ++ drop (a + 32) xs
 abbrev pub rewritten : List ℕ → ℕ → List ℕ → List ℕ
 rewritten xs a q = take a xs ++ (q ++ behind xs a q)
 
--- an accepted P or V, the places, the length of its queue, and the numbers of the own precedences
-pub record Requeues (t : Table) (e : Record) (queue owns : List ℕ) (n : ℕ) : Type 0 where
+-- an accepted P or V, the places and lengths of the queues, and the numbers of the own precedences
+pub record Requeues (t : Table) (e : Record) (queue lengths owns : List ℕ) : Type 0 where
   pub shape : Shape t
   pub sound : Sound t
   pub unrefused : lowest (refusals t e) ≡ 0
   pub late : 4 ≤ e .kind
   pub queue-is : queue ≡ t .queue
-  pub length-is : n ≡ at (t .length) (e .argument)
+  pub lengths-are : lengths ≡ t .length
   pub owns-right : (th : Thread) → th < 32 → at owns th ≡ slot-number (at (t .live) th) (at (t .priority) th) (at (t .time) th)

@@ -1,9 +1,10 @@
 -- The numbers that go with a table: what an event may count on, and what it leaves. Assumes nothing.
-use Prim.Native.Nat.{ℕ, _-_, _%_, _<_}
+use Prim.Native.Nat.{ℕ, _-_, _/_, _%_, _<_}
 use mathlib.Core.Path.{_≡_}
 use mathlib.Core.Bool.{true, cond}
 use mathlib.Core.List.{List}
 use lib.Dec.{eqb}
+use lib.ListN.{length}
 use Rattle.protocol.specs.Sets.{_∈_, set}
 use Rattle.protocol.specs.Events.{Thread, Resource}
 use Rattle.protocol.specs.Graph.{RAG, T, C, _⁺}
@@ -66,3 +67,10 @@ pub record Worked (t : Table) (e : Record) (queue length owns waiting currents :
 -- the time in the number of a precedence; 0 in the number 0, which is nobody's
 abbrev pub time-in : ℕ → ℕ
 time-in n = cond (eqb n 0) 0 (65535 - n % 65536)
+
+-- what the table stores of the numbers of 32 threads: the priority and the time in each
+pub record Stored-of (currents priorities times : List ℕ) : Type 0 where
+  pub priorities-size : length priorities ≡ 32
+  pub times-size : length times ≡ 32
+  pub priorities-right : (th : Thread) → th < 32 → at priorities th ≡ at currents th / 65536
+  pub times-right : (th : Thread) → th < 32 → at times th ≡ time-in (at currents th)

@@ -1,10 +1,17 @@
 // The end of an accepted event: the current precedences are stored.
 ghost use mathlib.Core.Path.{_≡_};
 ghost use Prim.Native.Nat.{ℕ, _/_, _<_};
-ghost use lib.ListN.{length};
+ghost use Rattle.table.specs.declared.Table.{Table};
 ghost use Rattle.table.specs.Table.{at};
-ghost use Rattle.locks.specs.Work.{time-in};
+ghost use Rattle.locks.specs.Answers.{answerOf};
+ghost use Rattle.locks.specs.Changed.{changed, with-current};
+ghost use Rattle.locks.specs.Work.{time-in, Worked, Stored-of};
+use crate::Answer;
+use crate::Record;
+use crate::judge::reply;
+use crate::numbers::numbers_after;
 use table::Table;
+use table::running::running;
 
 // The priority in a number.
 fn priority_in(n: u32) -> u8
@@ -25,26 +32,59 @@ fn time_in(n: u32) -> u16
     }
 }
 
-// Writes the priorities back from the numbers.
-pub fn store_priorities<'a>(to: &'a mut [u8; Table::THREADS], current: &'a [u32; Table::THREADS])
-    requires { ⌜ (length (now to) ≡ 32) × ((th : ℕ) → th < 32 → at (now current) th / 65536 < 256) ⌝ }
-    ensures { λ _. ⌜ (length (now (to .exit)) ≡ 32) × ((th : ℕ) → th < 32 → at (now (to .exit)) th ≡ at (now (current .entry)) th / 65536) ⌝ }
-{
-    let mut i = 0;
-    while i < Table::THREADS {
-        to[i] = priority_in(current[i]);
-        i += 1;
-    }
+// What the table stores of the current precedences.
+pub struct Stored {
+    pub priority: [u8; Table::THREADS],
+    pub time: [u16; Table::THREADS],
 }
 
-// And the times.
-pub fn store_times<'a>(to: &'a mut [u16; Table::THREADS], current: &'a [u32; Table::THREADS])
-    requires { ⌜ length (now to) ≡ 32 ⌝ }
-    ensures { λ _. ⌜ (length (now (to .exit)) ≡ 32) × ((th : ℕ) → th < 32 → at (now (to .exit)) th ≡ time-in (at (now (current .entry)) th)) ⌝ }
+// The priorities and times in the numbers. One loop for both: a loop for each would be unrolled whole, and its stores would be so many
+// uses of the table that the compiler no longer sees that one copy of it is enough.
+fn to_store(current: &[u32; Table::THREADS]) -> Stored
+    requires { ⌜ ((th : ℕ) → th < 32 → at (now current) th / 65536 < 256) ⌝ }
+    ensures { λ s. ⌜ Stored-of (now (current .entry)) (s .priority) (s .time) ⌝ }
 {
+    let mut priority = [0u8; Table::THREADS];
+    let mut time = [0u16; Table::THREADS];
     let mut i = 0;
     while i < Table::THREADS {
-        to[i] = time_in(current[i]);
+        let n = current[i];
+        priority[i] = priority_in(n);
+        time[i] = time_in(n);
         i += 1;
+    }
+    Stored { priority, time }
+}
+
+// What an accepted event leaves besides the slot or the queue: the answer, and the current precedences to be stored.
+pub struct Ending {
+    pub answer: Answer,
+    pub priority: [u8; Table::THREADS],
+    pub time: [u16; Table::THREADS],
+}
+
+// The queues lent are those after the event of e; the numbers are those before it, and the clock is its time.
+pub fn outcome<'a>(
+    queue: &'a [u8; Table::PLACES],
+    length: &'a [u8; Table::RESOURCES],
+    own: &'a [u32; Table::THREADS],
+    waits: [u8; Table::THREADS],
+    current: [u32; Table::THREADS],
+    clock: u16,
+    e: Record,
+) -> Ending
+    requires { ⌜ ((t : Table) × Worked t e (now queue) (now length) (now own) waits current clock) ⌝ }
+    ensures { λ o. ⌜ ((t : Table) → Worked t e (now (queue .entry)) (now (length .entry)) (now (own .entry)) waits current clock →
+        record { table = with-current (changed t e) (o .priority) (o .time); answer = o .answer } ≡ answerOf t e) ⌝ }
+{
+    let w = numbers_after(queue, length, own, waits, current, clock, e);
+    let answer = reply(0, running(&w.waits, &w.current), w.count);
+    let s = to_store(&w.current);
+    let priority = s.priority;
+    let time = s.time;
+    Ending {
+        answer,
+        priority,
+        time,
     }
 }

@@ -1,6 +1,7 @@
 // The calls: the by-value step and the three queries. See specs/ for what each answers.
 mod climb;
 mod finish;
+mod judge;
 mod numbers;
 pub mod queries;
 mod refusal;
@@ -42,8 +43,8 @@ pub struct Answer {
     pub count: u8,
 }
 
-// The answer, and the table afterwards.
+// The table afterwards, and the answer. In this order the compiler sees that the table in it and the step's own can be one.
 pub struct Done {
-    pub answer: Answer,
     pub table: Table,
+    pub answer: Answer,
 }

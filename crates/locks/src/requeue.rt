@@ -1,6 +1,5 @@
 // P and V: one queue is made anew.
 ghost use mathlib.Core.Path.{_≡_};
-ghost use lib.ListN.{set};
 ghost use Rattle.table.specs.declared.Table.{Table};
 ghost use Rattle.locks.specs.Changed.{changed};
 ghost use Rattle.locks.specs.Rows.{Requeues};
@@ -10,21 +9,23 @@ use crate::request::join;
 use table::Table;
 use table::queues::wide;
 
-// The queue of n entries that e names, after e: its places, and as the result its length.
+// The queue that e names, after e: its places, and its length.
 pub fn requeue<'a>(
     queue: &'a mut [u8; Table::PLACES],
+    length: &'a mut [u8; Table::RESOURCES],
     own: &'a [u32; Table::THREADS],
-    n: u8,
     e: Record,
-) -> u8
-    requires { ⌜ ((t : Table) × Requeues t e (now queue) (now own) n) ⌝ }
-    ensures { λ m. ⌜ ((t : Table) → Requeues t e (now (queue .entry)) (now (own .entry)) n → (now (queue .exit) ≡ changed t e .queue) × (set (t .length) (e .argument) m ≡ changed t e .length)) ⌝ }
+)
+    requires { ⌜ ((t : Table) × Requeues t e (now queue) (now length) (now own)) ⌝ }
+    ensures { λ _. ⌜ ((t : Table) → Requeues t e (now (queue .entry)) (now (length .entry)) (now (own .entry)) → (now (queue .exit) ≡ changed t e .queue) × (now (length .exit) ≡ changed t e .length)) ⌝ }
 {
     let r = wide(e.argument);
+    let n = length[r];
     if e.kind == Record::P {
         join(queue, r, wide(n), e.thread);
-        return n + 1;
+        length[r] = n + 1;
+    } else {
+        leave(queue, own, r, wide(n));
+        length[r] = n - 1;
     }
-    leave(queue, own, r, wide(n));
-    n - 1
 }

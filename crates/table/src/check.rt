@@ -2,8 +2,6 @@
 ghost use mathlib.Core.Path.{_≡_};
 ghost use mathlib.Core.Bool.{true};
 ghost use mathlib.Core.Logic.{_↔_};
-ghost use Prim.Native.Nat.{ℕ, _<_, _≤_};
-ghost use Rattle.table.specs.Table.{at};
 ghost use Rattle.table.specs.Sound.{Sound};
 ghost use Rattle.table.specs.Checked.{table-of, Checked-right};
 use crate::Table;

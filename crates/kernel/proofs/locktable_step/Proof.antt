@@ -77,10 +77,10 @@ nval = LL.val N.the-type N′.the-laws
 
 -- what whoever holds what `step` returned knows of its two fields
 table-is : (r : Done) {vs : List Val} → Is D.the-row r vs → Is T.the-row (r .table) (tval (r .table) ∷ [])
-table-is r {vs} g = LL.owed D.the-type D′.the-laws r vs g .1 .0
+table-is r {vs} g = LL.owed D.the-type D′.the-laws r vs g .0
 
 answer-is : (r : Done) {vs : List Val} → Is D.the-row r vs → Is N.the-row (r .answer) (nval (r .answer) ∷ [])
-answer-is r {vs} g = LL.owed D.the-type D′.the-laws r vs g .0
+answer-is r {vs} g = LL.owed D.the-type D′.the-laws r vs g .1 .0
 
 module _ {M : Type 1} (𝓤 : URA M) (H : Heap 𝓤) (A : Atoms 𝓤) (at-mem : Memory → SProp 𝓤) (run : Routine → Fun 𝓤) where
   -- the contract that the proof cites, and of its `ensured` the clause alone
@@ -139,8 +139,8 @@ module _ {M : Type 1} (𝓤 : URA M) (H : Heap 𝓤) (A : Atoms 𝓤) (W : Given
         land ! (from ! (stop !)) (init ! 10 refl (LL.lawful D.the-type D′.the-laws 𝓤 H A W .typed r _ is .0)) $
         rewrite ! 10 (λ (u : Val). ‵ (fat fullShare D′.mir l₃ 0 u)) (ap only (LL.tells D.the-type D′.the-laws r (v ∷ []) is)) refl $
         -- [what the result owns; the table's cell; what it owned; the open borrow; obs; auth; true; what e owns; _4; …; _3; …]: the new table is stored, and the answer is the result
-        assigns ! (of-opd ! (load ! (from ! (fld ! refl (stop !))) (look-in ! 10 (sub ! 1 refl (whole !))))) (from ! (hop ! (look ! 14 refl) (stop !))) (store-raw ! 1 refl (LL.lawful T.the-type T′.the-laws 𝓤 H A W .typed (r .table) _ (table-is r is) .0)) $
-        assigns ! (of-opd ! (load ! (from ! (fld ! refl (stop !))) (look-in ! 10 (sub ! 0 refl (whole !))))) (from ! (stop !)) (init ! 16 refl (LL.lawful N.the-type N′.the-laws 𝓤 H A W .typed (r .answer) _ (answer-is r is) .0)) $
+        assigns ! (of-opd ! (load ! (from ! (fld ! refl (stop !))) (look-in ! 10 (sub ! 0 refl (whole !))))) (from ! (hop ! (look ! 14 refl) (stop !))) (store-raw ! 1 refl (LL.lawful T.the-type T′.the-laws 𝓤 H A W .typed (r .table) _ (table-is r is) .0)) $
+        assigns ! (of-opd ! (load ! (from ! (fld ! refl (stop !))) (look-in ! 10 (sub ! 1 refl (whole !))))) (from ! (stop !)) (init ! 16 refl (LL.lawful N.the-type N′.the-laws 𝓤 H A W .typed (r .answer) _ (answer-is r is) .0)) $
         -- the borrow is closed at the new table
         drop ! $ move ! (1 ∷ []) $ drop ! $ owned ! T.the-row (Is T.the-row) (LL.makes T.the-type T′.the-plain 𝓤 H A) (r .table) _ (table-is r is) $ move ! (1 ∷ 0 ∷ []) $ closes ! tt T.the-row (r .table) (tval (r .table) ∷ []) b o $
         -- [obs; the borrow; the token; true; what e owns; _4; …; _0; …]
