@@ -17,7 +17,7 @@ use Rattle.locks.specs.Events.{settled, with-slot, heir, created, exited
 use Rattle.locks.specs.Count.{walk, request-count, release-count}
 use Rattle.locks.specs.Answers.{accepted, applied}
 use Rattle.locks.specs.Changed.{reslotted, joined, passed-on, changed, Has-queues}
-use Rattle.locks.specs.Work.{Tracked, Sets, Exits, Asks, Releases, Worked}
+use Rattle.locks.specs.Work.{Tracked, Sets, Stands-nowhere, Asks, Releases, Worked}
 use Rattle.locks.proofs.Shapes.{slot-shape}
 use Rattle.locks.proofs.BareQueues.{fits-shape, request-fits, release-fits}
 use Rattle.locks.proofs.Settled.{settled-current, settled-waits-for, settled-blocker}
@@ -118,20 +118,19 @@ module _ {queue lengths owns waiting currents : List ℕ} {now : ℕ} (t : Table
     subst (λ (u : Table). Has-queues u queue lengths) (changed-release t e kind) (w .queues-are),
   )
 
-  pub exits : e .kind ≡ 2 → Exits t waiting owns currents (e .thread)
+  pub exits : e .kind ≡ 2 → Stands-nowhere t waiting owns currents (e .thread)
   exits kind = record { checked = w .checked; early = admits .clock; thread = admits .thread-small; alone = exits-out admits kind }
 
-  pub sets : (e .kind ≡ 1) ⊎ (e .kind ≡ 3) → Sets t waiting owns currents (e .thread)
-  sets kind = record { checked = w .checked; early = admits .clock; thread = admits .thread-small; idle = idle kind }
-    where
-      idle : (e .kind ≡ 1) ⊎ (e .kind ≡ 3) → (r : ℕ) → ¬ waits t (e .thread) r
-      idle (inl q) r v = admits .new q (found-sound t (w .checked) .queues-right .live-entries r (e .thread) (v .0))
-      idle (inr q) r v = asks-idle admits (λ i. absurd (omega arith)) r v
+  pub creates : e .kind ≡ 1 → Stands-nowhere t waiting owns currents (e .thread)
+  creates kind = record { checked = w .checked; early = admits .clock; thread = admits .thread-small; alone = λ r i. admits .new kind (found-sound t (w .checked) .queues-right .live-entries r (e .thread) i) }
 
-  -- Create and Set leave the queues as they were
-  pub set-queues : (e .kind ≡ 1) ⊎ (e .kind ≡ 3) → (queue ≡ t .queue) × (lengths ≡ t .length)
+  pub sets : e .kind ≡ 3 → Sets t waiting owns currents (e .thread)
+  sets kind = record { checked = w .checked; early = admits .clock; thread = admits .thread-small; idle = asks-idle admits (λ i. absurd (omega arith)) }
+
+  -- Set leaves the queues as they were
+  pub set-queues : e .kind ≡ 3 → (queue ≡ t .queue) × (lengths ≡ t .length)
   unfolding with-slot
-  set-queues kind = (w .queues-are .queue-is ∙ ap (λ (u : Table). u .queue) (changed-set t e kind), w .queues-are .length-is ∙ ap (λ (u : Table). u .length) (changed-set t e kind))
+  set-queues kind = (w .queues-are .queue-is ∙ ap (λ (u : Table). u .queue) (changed-set t e (inr kind)), w .queues-are .length-is ∙ ap (λ (u : Table). u .length) (changed-set t e (inr kind)))
 
   -- the numbers are those of the table after the event, and with the count they make its answer
   abbrev Right : List ℕ → List ℕ → ℕ → Type 0

@@ -3,9 +3,10 @@ use Prim.Native.Nat.{ℕ, _≤_, _<_}
 use mathlib.Core.Path.{_≡_, refl, sym, subst, _∙_}
 use mathlib.Core.Bool.{true}
 use mathlib.Core.List.{List}
-use mathlib.Core.Logic.{_≢_, inr, by-cases}
+use mathlib.Core.Logic.{_≢_, inl, inr, ⊎-elim, by-cases}
 use native.Mathlib.Decide.{ℕ-discrete}
 use native.Mathlib.Omega.{arith}
+use borrow.Author.Tests.{le-leb}
 use lib.ListN
 use lib.ListN.{set}
 use lib.Seq.{getD-set-same, getD-set-other}
@@ -18,6 +19,7 @@ use Rattle.table.specs.Table.{at, live, queues, waits}
 use Rattle.table.specs.Parts.{Compared}
 use Rattle.table.specs.Checked.{Checked-right}
 use Rattle.table.specs.Compute.{holder, is-waiting, waits-for}
+use Rattle.table.proofs.Rows.{in-queue}
 use Rattle.locks.specs.Events.{with-slot}
 use Rattle.locks.specs.Work.{Tracked}
 use Rattle.locks.proofs.Values.{Good, hops, own-number, Lawful, all-worth, walk-ends}
@@ -83,6 +85,21 @@ module _ (t : Table) {waiting owns currents : List ℕ} (k : Checked-right t tru
 
       own-is : rank 65535 (prio, t .clock) ≡ own-number after good th
       own-is = rw (getD-set-same (t .priority) th prio 0 (omega (arith, k .shape .priority-size)), getD-set-same (t .time) th (t .clock) 0 (omega (arith, k .shape .time-size)))
+
+  -- where th stands in no queue nobody is compared
+  alone-max : ((cs : ℕ) → ¬ (th ∈ sets (queues t cs))) → (own : ℕ) → Max _≤_ (Compared (t .queue) (t .length) currents 16 own th) own
+  alone-max alone own = record {
+    among = inl refl;
+    bound = λ a. ⊎-elim {C = a ≤ own} (λ e. omega (arith, e))
+        (λ (r, i, h, from, to, first, v). absurd (alone r (in-queue t (k .shape) lengths r th .1 (0, omega (arith, from, rw (le-leb (at (t .length) r) 32 (lengths r)) at to), first))));
+  }
+    where
+      lengths : (r : ℕ) → at (t .length) r ≤ 32
+      lengths = found-sound t k .queues-right .lengths
+
+  -- Create: so its number is its own
+  pub made-tracked : (prio : ℕ) → prio ≤ 255 → ((cs : ℕ) → ¬ (th ∈ sets (queues t cs))) → Tracked (with-slot t th 1 prio (t .clock)) waiting (set currents th (rank 65535 (prio, t .clock)))
+  made-tracked prio small alone = set-tracked prio (rank 65535 (prio, t .clock)) small (λ r v. alone r (v .0)) (alone-max alone (rank 65535 (prio, t .clock)))
 
   -- Exit: th stands in no queue, so nobody's number depends on it
   pub exit-tracked : ((cs : ℕ) → ¬ (th ∈ sets (queues t cs))) → Tracked (with-slot t th 0 0 0) waiting (set currents th 0)

@@ -33,8 +33,8 @@ pub record Sets (t : Table) (waiting owns currents : List ℕ) (th : Thread) : T
   pub thread : th < 32
   pub idle : (r : Resource) → ¬ waits t th r
 
--- th may exit: it stands in no queue
-pub record Exits (t : Table) (waiting owns currents : List ℕ) (th : Thread) : Type 0 where
+-- th may be created or exit: it stands in no queue
+pub record Stands-nowhere (t : Table) (waiting owns currents : List ℕ) (th : Thread) : Type 0 where
   pub checked : Checked-right t true waiting owns currents
   pub early : t .clock < 65535
   pub thread : th < 32

@@ -9,6 +9,7 @@ use crate::Record;
 use crate::release::released;
 use crate::request::requested;
 use crate::slots::slot_cleared;
+use crate::slots::slot_made;
 use crate::slots::slot_set;
 use table::Table;
 
@@ -42,6 +43,9 @@ pub fn numbers_after<'a>(
     }
     if e.kind == Record::EXIT {
         return slot_cleared(waits, current, e.thread);
+    }
+    if e.kind == Record::CREATE {
+        return slot_made(waits, current, e.thread, e.argument, time);
     }
     slot_set(queue, length, waits, current, e.thread, e.argument, time)
 }

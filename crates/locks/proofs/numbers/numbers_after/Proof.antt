@@ -1,20 +1,10 @@
 -- `locks::numbers::numbers_after` meets its contract. Assumes nothing.
-use Prim.Native.Nat.{ℕ, _≤_}
 use mathlib.Core.Path.{_≡_}
-use mathlib.Core.Logic.{_≢_, _⊎_, inl, inr}
-use native.Mathlib.Decide.{ℕ-discrete}
+use mathlib.Core.Logic.{inl, inr}
 use native.Mathlib.Omega.{arith}
-use Rattle.locks.proofs.CarriedOut.{admits, asks, releases, exits, sets, set-queues, request-right, release-right, exit-right, set-right}
+use Rattle.locks.proofs.CarriedOut.{admits, asks, releases, exits, creates, sets, set-queues, request-right, release-right, exit-right, set-right}
 use Rattle.locks.proofs.numbers.numbers_after.Statement.{statement}
 use Rattle.locks.proofs.numbers.numbers_after.Tie as tie
-
--- Create or Set, if no other kind
-first-or-third : (kind : ℕ) → 1 ≤ kind → kind ≤ 5 → kind ≢ 4 → kind ≢ 5 → kind ≢ 2 → (kind ≡ 1) ⊎ (kind ≡ 3)
-first-or-third kind from to a b c = go (ℕ-discrete kind 1)
-  where
-    go : Dec (kind ≡ 1) → (kind ≡ 1) ⊎ (kind ≡ 3)
-    go (yes e) = inl e
-    go (no n) = inr (omega arith)
 
 requested-requires : tie.Need-requested-requires
 requested-requires c κs =
@@ -51,19 +41,30 @@ returns-3 c =
     let kind = c .before .if3 .taken in
     λ t w. exit-right t (h .args .e) w kind (c .slot-cleared .ensures .0 t (h .args .own .now) (exits t (h .args .e) w kind)) (c .slot-cleared .ensures .1)
 
-slot-set-requires : tie.Need-slot-set-requires
-slot-set-requires c κs =
-    let h = c .before .before .before .before .before .before in
+slot-made-requires : tie.Need-slot-made-requires
+slot-made-requires c κs =
+    let h = c .before .before .before .before .before .before .before .before in
     admits (h .pre .0) (h .args .e) (h .pre .1) .thread-small
 
 returns-4 : tie.Need-returns-4
 returns-4 c =
-    let h = c .before .before .before .before .before .before .before in
+    let h = c .before .before .before .before .before .before .before .before .before in
+    let kind = c .before .if4 .taken in
+    λ t w. set-right t (h .args .e) w (inl kind) (c .slot-made .ensures .0 t (h .args .own .now) (creates t (h .args .e) w kind) (w .now-is)) (c .slot-made .ensures .1)
+
+slot-set-requires : tie.Need-slot-set-requires
+slot-set-requires c κs =
+    let h = c .before .before .before .before .before .before .before .before in
+    admits (h .pre .0) (h .args .e) (h .pre .1) .thread-small
+
+returns-5 : tie.Need-returns-5
+returns-5 c =
+    let h = c .before .before .before .before .before .before .before .before .before in
     λ t w.
     let m = admits t (h .args .e) w in
-    let kind = first-or-third (h .args .e .kind) (m .kind-from) (m .kind-to) (c .before .before .before .before .before .if1 .left) (c .before .before .before .if2 .left) (c .before .if3 .left) in
+    let kind : h .args .e .kind ≡ 3 = omega (arith, m .kind-from, m .kind-to, c .before .before .before .before .before .before .before .if1 .left, c .before .before .before .before .before .if2 .left, c .before .before .before .if3 .left, c .before .if4 .left) in
     let q = set-queues t (h .args .e) w kind in
-    set-right t (h .args .e) w kind (c .slot-set .ensures .0 t (h .args .own .now) (sets t (h .args .e) w kind) (w .now-is) (q .0) (q .1)) (c .slot-set .ensures .1)
+    set-right t (h .args .e) w (inr kind) (c .slot-set .ensures .0 t (h .args .own .now) (sets t (h .args .e) w kind) (w .now-is) (q .0) (q .1)) (c .slot-set .ensures .1)
 
 pub numbers-after-spec : {M : Type 1} → statement M
 numbers-after-spec =
@@ -75,5 +76,7 @@ numbers-after-spec =
     returns-2
     slot-cleared-requires
     returns-3
+    slot-made-requires
+    returns-4
     slot-set-requires
-    returns-4)
+    returns-5)
