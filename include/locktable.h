@@ -8,7 +8,7 @@
  *   - the stack aligned to 16 bytes, as the ABI of x86-64 has it, since the library stores there by aligned SSE instructions: a kernel that is
  *     compiled for a boundary of 8 (-mpreferred-stack-boundary=3) would fault;
  *   - SSE2 switched on, and the registers xmm0 to xmm15 saved by whoever still needs what they hold;
- *   - up to 3 KiB of stack (measured; bench/FIGURES.md). The red zone is used, the 128 bytes below the stack pointer: no interrupt may write there.
+ *   - up to 2 KiB of stack (measured; bench/FIGURES.md). The red zone is used, the 128 bytes below the stack pointer: no interrupt may write there.
  *
  * What this file says of the calls is proved, for every table and every argument: in crates/kernel/src/lib.rt that a call does to the lent table
  * what the function does that has it by value; in crates/locks/src what that function answers and makes of the table (step.rt, queries.rt), in

@@ -1,11 +1,14 @@
 -- An accepted event, as the code carries it out, is what document 01 makes of it. Assumes nothing.
-use Prim.Native.Nat.{ℕ, zero, suc, _<_}
+use Prim.Native.Nat.{ℕ, zero, suc, _≤_, _<_}
 use mathlib.Core.Path.{_≡_, refl, sym, ap, subst, _∙_}
 use mathlib.Core.List.{List, [], _∷_, _++_}
 use mathlib.Core.Logic.{_≢_, _⊎_, inl, inr, ⊎-elim}
 use native.Mathlib.Decide.{ℕ-discrete, decLt}
 use native.Mathlib.Omega.{arith}
 use borrow.Author.Tests.{ne-eqb}
+use lib.ListN
+use lib.ListN.{set}
+use Rattle.protocol.specs.Rank.{rank}
 use Rattle.protocol.specs.Schedule.{release}
 use Rattle.table.specs.declared.Table.{Table}
 use Rattle.table.specs.Table.{queues, waits}
@@ -17,11 +20,12 @@ use Rattle.locks.specs.Events.{settled, with-slot, heir, created, exited
 use Rattle.locks.specs.Count.{walk, request-count, release-count}
 use Rattle.locks.specs.Answers.{accepted, applied}
 use Rattle.locks.specs.Changed.{reslotted, joined, passed-on, changed, Has-queues}
-use Rattle.locks.specs.Work.{Tracked, Sets, Stands-nowhere, Asks, Releases, Worked}
+use Rattle.locks.specs.Work.{Tracked, Sets, Asks, Releases, Worked}
 use Rattle.locks.proofs.Shapes.{slot-shape}
 use Rattle.locks.proofs.BareQueues.{fits-shape, request-fits, release-fits}
 use Rattle.locks.proofs.Settled.{settled-current, settled-waits-for, settled-blocker}
 use Rattle.locks.proofs.Found.{found-sound}
+use Rattle.locks.proofs.SlotWork.{made-tracked, exit-tracked}
 use Rattle.locks.proofs.Heir.{heir-follows}
 use Rattle.locks.proofs.Admitted.{Admitted, admitted, asks-idle, exits-out}
 use Rattle.locks.proofs.Applied.{applied-cases}
@@ -118,12 +122,6 @@ module _ {queue lengths owns waiting currents : List ℕ} {now : ℕ} (t : Table
     subst (λ (u : Table). Has-queues u queue lengths) (changed-release t e kind) (w .queues-are),
   )
 
-  pub exits : e .kind ≡ 2 → Stands-nowhere t waiting owns currents (e .thread)
-  exits kind = record { checked = w .checked; early = admits .clock; thread = admits .thread-small; alone = exits-out admits kind }
-
-  pub creates : e .kind ≡ 1 → Stands-nowhere t waiting owns currents (e .thread)
-  creates kind = record { checked = w .checked; early = admits .clock; thread = admits .thread-small; alone = λ r i. admits .new kind (found-sound t (w .checked) .queues-right .live-entries r (e .thread) i) }
-
   pub sets : e .kind ≡ 3 → Sets t waiting owns currents (e .thread)
   sets kind = record { checked = w .checked; early = admits .clock; thread = admits .thread-small; idle = asks-idle admits (λ i. absurd (omega arith)) }
 
@@ -142,8 +140,14 @@ module _ {queue lengths owns waiting currents : List ℕ} {now : ℕ} (t : Table
   pub release-right : {ws cs : List ℕ} {n : ℕ} → e .kind ≡ 5 → Tracked (passed-on t (e .argument)) ws cs × (n ≡ release-count (queues t (e .argument))) → Right ws cs n
   release-right {n = n} kind (o, c) = (rw (changed-release t e kind) o, release-answer t e admits kind n c)
 
-  pub exit-right : {ws cs : List ℕ} {n : ℕ} → e .kind ≡ 2 → Tracked (with-slot t (e .thread) 0 0 0) ws cs → n ≡ 0 → Right ws cs n
-  exit-right kind o c = (rw (changed-exit t e kind) o, rw c (exit-answer t e admits kind))
+  pub set-right : {ws cs : List ℕ} → (e .kind ≡ 1) ⊎ (e .kind ≡ 3) → Tracked (with-slot t (e .thread) 1 (e .argument) now) ws cs → Right ws cs 1
+  set-right kind o = (rw (changed-set t e kind) (rw (w .now-is) at o), set-answer t e admits kind)
 
-  pub set-right : {ws cs : List ℕ} {n : ℕ} → (e .kind ≡ 1) ⊎ (e .kind ≡ 3) → Tracked (with-slot t (e .thread) 1 (e .argument) now) ws cs → n ≡ 1 → Right ws cs n
-  set-right kind o c = (rw (changed-set t e kind) (rw (w .now-is) at o), rw c (set-answer t e admits kind))
+  -- Exit: the thread stands in no queue
+  pub exit-right : ListN.length currents ≡ 32 → e .kind ≡ 2 → Right waiting (set currents (e .thread) 0) 0
+  exit-right size kind = (rw (changed-exit t e kind) (exit-tracked t (w .checked) (e .thread) (admits .thread-small) (admits .clock) size (exits-out admits kind)), exit-answer t e admits kind)
+
+  -- Create: nor does it
+  pub create-right : ListN.length currents ≡ 32 → e .argument ≤ 255 → e .kind ≡ 1 → Right waiting (set currents (e .thread) (rank 65535 (e .argument, now))) 1
+  create-right size small kind = set-right (inl kind)
+      (rw (w .now-is) (made-tracked t (w .checked) (e .thread) (admits .thread-small) (admits .clock) size (e .argument) small (λ r i. admits .new kind (found-sound t (w .checked) .queues-right .live-entries r (e .thread) i))))

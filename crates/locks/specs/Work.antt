@@ -5,7 +5,7 @@ use mathlib.Core.Bool.{true, cond}
 use mathlib.Core.List.{List}
 use lib.Dec.{eqb}
 use lib.ListN.{length}
-use Rattle.protocol.specs.Sets.{_∈_, set}
+use Rattle.protocol.specs.Sets.{_∈_}
 use Rattle.protocol.specs.Events.{Thread, Resource}
 use Rattle.protocol.specs.Graph.{RAG, T, C, _⁺}
 use Rattle.protocol.specs.Rank.{rank}
@@ -26,19 +26,16 @@ pub record Tracked (t : Table) (waits currents : List ℕ) : Type 0 where
   pub waits-right : (th : Thread) → th < 32 → at waits th ≡ waits-for t th
   pub currents-right : (th : Thread) → th < 32 → at currents th ≡ current-number t th
 
+-- the arrays have a place for each of the 32 threads
+abbrev pub Sized : List ℕ → List ℕ → Type 0
+Sized waits currents = (length waits ≡ 32) × (length currents ≡ 32)
+
 -- th may be set: there is such a thread, and it waits for nothing
 pub record Sets (t : Table) (waiting owns currents : List ℕ) (th : Thread) : Type 0 where
   pub checked : Checked-right t true waiting owns currents
   pub early : t .clock < 65535
   pub thread : th < 32
   pub idle : (r : Resource) → ¬ waits t th r
-
--- th may be created or exit: it stands in no queue
-pub record Stands-nowhere (t : Table) (waiting owns currents : List ℕ) (th : Thread) : Type 0 where
-  pub checked : Checked-right t true waiting owns currents
-  pub early : t .clock < 65535
-  pub thread : th < 32
-  pub alone : (r : Resource) → ¬ (th ∈ set (queues t r))
 
 -- th may ask for cs: it is live and waits for nothing, and no chain leads from cs to it
 pub record Asks (t : Table) (waiting owns currents : List ℕ) (th : Thread) (cs : Resource) : Type 0 where

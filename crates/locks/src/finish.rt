@@ -77,9 +77,11 @@ pub fn outcome<'a>(
     ensures { λ o. ⌜ ((t : Table) → Worked t e (now (queue .entry)) (now (length .entry)) (now (own .entry)) waits current clock →
         record { table = with-current (changed t e) (o .priority) (o .time); answer = o .answer } ≡ answerOf t e) ⌝ }
 {
-    let w = numbers_after(queue, length, own, waits, current, clock, e);
-    let answer = reply(0, running(&w.waits, &w.current), w.count);
-    let s = to_store(&w.current);
+    let mut waiting = waits;
+    let mut values = current;
+    let count = numbers_after(queue, length, own, &mut waiting, &mut values, clock, e);
+    let answer = reply(0, running(&waiting, &values), count);
+    let s = to_store(&values);
     let priority = s.priority;
     let time = s.time;
     Ending {

@@ -12,10 +12,9 @@ ghost use Rattle.table.specs.Parts.{entry};
 ghost use Rattle.locks.specs.Count.{release-count};
 ghost use Rattle.locks.specs.Changed.{passed-on, Has-queues};
 ghost use Rattle.locks.specs.Rows.{Row, rewritten};
-ghost use Rattle.locks.specs.Work.{Releases, Tracked};
+ghost use Rattle.locks.specs.Work.{Releases, Tracked, Sized};
 ghost use Rattle.locks.specs.Heir.{Heir-place};
 ghost use Rattle.locks.specs.Afresh.{Both-afresh};
-use crate::numbers::Values;
 use table::Table;
 use table::law::afresh;
 use table::law::value;
@@ -97,19 +96,17 @@ fn both_afresh<'a>(
     queue: &'a [u8; Table::PLACES],
     length: &'a [u8; Table::RESOURCES],
     own: &'a [u32; Table::THREADS],
-    current: [u32; Table::THREADS],
+    current: &'a mut [u32; Table::THREADS],
     thread: usize,
     heir: usize,
-) -> [u32; Table::THREADS]
+)
     requires { ⌜ (thread < 32) × (heir < 32) ⌝ }
-    ensures { λ e. ⌜ Both-afresh (now (queue .entry)) (now (length .entry)) (now (own .entry)) current thread heir e ⌝ }
+    ensures { λ _. ⌜ Both-afresh (now (queue .entry)) (now (length .entry)) (now (own .entry)) (now (current .entry)) thread heir (now (current .exit)) ⌝ }
 {
-    let mut values = current;
-    let first = afresh(queue, length, own[thread], &values, thread as u8);
-    values[thread] = first;
-    let second = afresh(queue, length, own[heir], &values, heir as u8);
-    values[heir] = second;
-    values
+    let first = afresh(queue, length, own[thread], current, thread as u8);
+    current[thread] = first;
+    let second = afresh(queue, length, own[heir], current, heir as u8);
+    current[heir] = second;
 }
 
 // The thread waits for nothing, so whoever else holds a resource keeps its precedence: only the two who hold this one, before and after,
@@ -118,30 +115,21 @@ pub fn released<'a>(
     queue: &'a [u8; Table::PLACES],
     length: &'a [u8; Table::RESOURCES],
     own: &'a [u32; Table::THREADS],
-    waits: [u8; Table::THREADS],
-    current: [u32; Table::THREADS],
+    waits: &'a mut [u8; Table::THREADS],
+    current: &'a mut [u32; Table::THREADS],
     thread: u8,
     resource: u8,
-) -> Values
-    requires { ⌜ ((t : Table) × Releases t waits (now own) current thread resource × Has-queues (passed-on t resource) (now queue) (now length)) ⌝ }
-    ensures { λ w. ⌜ ((t : Table) → Releases t waits (now (own .entry)) current thread resource → Has-queues (passed-on t resource) (now (queue .entry)) (now (length .entry)) →
-        Tracked (passed-on t resource) (w .waits) (w .current) × (w .count ≡ release-count (queues t resource))) ⌝ }
+) -> u8
+    requires { ⌜ Sized (now waits) (now current) × ((t : Table) × Releases t (now waits) (now own) (now current) thread resource × Has-queues (passed-on t resource) (now queue) (now length)) ⌝ }
+    ensures { λ n. ⌜ ((t : Table) → Releases t (now (waits .entry)) (now (own .entry)) (now (current .entry)) thread resource → Has-queues (passed-on t resource) (now (queue .entry)) (now (length .entry)) →
+        Tracked (passed-on t resource) (now (waits .exit)) (now (current .exit)) × (n ≡ release-count (queues t resource))) ⌝ }
 {
     let r = wide(resource);
     if length[r] == 0 {
-        return Values {
-            waits,
-            current,
-            count: 0,
-        };
+        return 0;
     }
     let heir = wide(queue[r * Table::THREADS]);
-    let mut waiting = waits;
-    waiting[heir] = Table::NOTHING;
-    let values = both_afresh(queue, length, own, current, wide(thread), heir);
-    Values {
-        waits: waiting,
-        current: values,
-        count: 2,
-    }
+    waits[heir] = Table::NOTHING;
+    both_afresh(queue, length, own, current, wide(thread), heir);
+    2
 }

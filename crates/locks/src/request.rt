@@ -7,9 +7,8 @@ ghost use Rattle.table.specs.declared.Table.{Table};
 ghost use Rattle.table.specs.Table.{queues};
 ghost use Rattle.locks.specs.Count.{request-count};
 ghost use Rattle.locks.specs.Changed.{joined, Has-queues};
-ghost use Rattle.locks.specs.Work.{Asks, Tracked};
+ghost use Rattle.locks.specs.Work.{Asks, Tracked, Sized};
 use crate::climb::climb;
-use crate::numbers::Values;
 use table::Table;
 use table::queues::wide;
 
@@ -26,37 +25,21 @@ pub fn join(queue: &mut [u8; Table::PLACES], r: usize, n: usize, thread: u8)
 pub fn requested<'a>(
     queue: &'a [u8; Table::PLACES],
     length: &'a [u8; Table::RESOURCES],
-    waits: [u8; Table::THREADS],
-    current: [u32; Table::THREADS],
+    waits: &'a mut [u8; Table::THREADS],
+    current: &'a mut [u32; Table::THREADS],
     thread: u8,
     resource: u8,
-) -> Values
-    requires { ⌜ ((t : Table) × (owns : List ℕ) × Asks t waits owns current thread resource × Has-queues (joined t thread resource) (now queue) (now length)) ⌝ }
-    ensures { λ w. ⌜ ((t : Table) (owns : List ℕ) → Asks t waits owns current thread resource → Has-queues (joined t thread resource) (now (queue .entry)) (now (length .entry)) →
-        Tracked (joined t thread resource) (w .waits) (w .current) × (w .count ≡ request-count t (joined t thread resource) resource (queues t resource))) ⌝ }
+) -> u8
+    requires { ⌜ Sized (now waits) (now current) × ((t : Table) × (owns : List ℕ) × Asks t (now waits) owns (now current) thread resource × Has-queues (joined t thread resource) (now queue) (now length)) ⌝ }
+    ensures { λ n. ⌜ ((t : Table) (owns : List ℕ) → Asks t (now (waits .entry)) owns (now (current .entry)) thread resource → Has-queues (joined t thread resource) (now (queue .entry)) (now (length .entry)) →
+        Tracked (joined t thread resource) (now (waits .exit)) (now (current .exit)) × (n ≡ request-count t (joined t thread resource) resource (queues t resource))) ⌝ }
 {
     let r = wide(resource);
     if length[r] == 1 {
-        return Values {
-            waits,
-            current,
-            count: 0,
-        };
+        return 0;
     }
     let i = wide(thread);
-    let mut waiting = waits;
-    waiting[i] = resource;
-    let walked = climb(
-        queue,
-        &waiting,
-        current,
-        queue[r * Table::THREADS],
-        current[i],
-    );
-    let values = walked.current;
-    Values {
-        waits: waiting,
-        current: values,
-        count: walked.count,
-    }
+    let v = current[i];
+    waits[i] = resource;
+    climb(queue, waits, current, queue[r * Table::THREADS], v)
 }

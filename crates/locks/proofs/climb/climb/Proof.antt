@@ -66,13 +66,13 @@ module _ (queue waits : List ℕ) (v : ℕ) where
         )
 
 abbrev Inv-loop : tie.InvT-loop
-Inv-loop queue waits start v values₀ at₀ n₀ values at n = Going queue waits v values₀ at₀ values at n
+Inv-loop queue waits current₀ start v at₀ n₀ current at n = Going queue waits v current₀ at₀ current at n
 
 abbrev μ-loop : tie.MeasureT-loop
-μ-loop queue waits start v values₀ at₀ n₀ values at n = 17 - n
+μ-loop queue waits current₀ start v at₀ n₀ current at n = 17 - n
 
 loop-holds : tie.Need-loop-holds Inv-loop μ-loop
-loop-holds c = (way-low (c .pre .4), omega arith, search needs, λ length owns k b r. ((k, omega (arith, b), r), λ i e w. rw (zero-add i) w))
+loop-holds c = (way-low (c .pre .1 .4), omega arith, c .pre .0, λ length owns k b r. ((k, omega (arith, b), r), λ i e w. rw (zero-add i) w))
 
 add-n : tie.Need-add-n Inv-loop μ-loop
 add-n c = search needs
@@ -80,17 +80,34 @@ add-n c = search needs
 mul-if1 : tie.Need-mul-if1 Inv-loop μ-loop
 mul-if1 c = search needs
 
-array-read-if1 : tie.Need-array-read-if1 Inv-loop μ-loop
-array-read-if1 c = search needs
+element-copy-out-if1 : tie.Need-element-copy-out-if1 Inv-loop μ-loop
+element-copy-out-if1 c = search needs
 
-mul-values : tie.Need-mul-values Inv-loop μ-loop
-mul-values c = search needs
+returns : tie.Need-returns Inv-loop μ-loop
+returns c =
+    let h = c .before .before in
+    let a = h .before .args in
+    λ length owns k b r.
+    let w = h .loop .inv .3 length owns k b r in
+    w .1 1 (h .loop .current) (stays (same (a .queue .now) (a .waits .now) (a .v) length owns (h .loop .current) (h .loop .at) (h .loop .n) (w .0) (c .if1 .taken)))
 
-array-write-values : tie.Need-array-write-values Inv-loop μ-loop
-array-write-values c = search needs
+mul-current : tie.Need-mul-current Inv-loop μ-loop
+mul-current c = search needs
+
+element-write-current : tie.Need-element-write-current Inv-loop μ-loop
+element-write-current c = search needs
 
 element-copy-out-r : tie.Need-element-copy-out-r Inv-loop μ-loop
 element-copy-out-r c = search needs
+
+returns-2 : tie.Need-returns-2 Inv-loop μ-loop
+returns-2 c =
+    let h = c .before .before .before .before in
+    let a = h .before .args in
+    let rose : at (h .loop .current) (h .loop .at) < a .v = search needs in
+    λ length owns k b r.
+    let w = h .loop .inv .3 length owns k b r in
+    w .1 1 (set (h .loop .current) (h .loop .at) (a .v)) (last (higher (a .queue .now) (a .waits .now) (a .v) length owns (h .loop .current) (h .loop .at) (h .loop .n) (w .0) rose) (λ d. absurd (omega (arith, d, rose))) (omega (arith, c .if2 .taken)))
 
 wide-requires : tie.Need-wide-requires Inv-loop μ-loop
 wide-requires c κs = search needs
@@ -109,27 +126,10 @@ loop-less c = search needs
 
 loop-again : tie.Need-loop-again Inv-loop μ-loop
 loop-again c =
-    let h = c .before .before .before .before .before .before in
+    let h = c .before .before .before .before .before .before .before in
     let a = h .before .args in
-    goes-up (a .queue .now) (a .waits .now) (a .v) (a .current) (a .start) (h .before .pre) (h .loop .values) (h .loop .at) (h .loop .n) (c .wide2 .result)
+    goes-up (a .queue .now) (a .waits .now) (a .v) (a .current .now) (a .start) (h .before .pre .1) (h .loop .current) (h .loop .at) (h .loop .n) (c .wide2 .result)
     (search needs) (search needs) (c .wide2 .ensures .0 ∙ ap (at (a .queue .now)) (omega (arith, c .before .before .wide .ensures .0))) (h .loop .inv)
-
-returns : tie.Need-returns Inv-loop μ-loop
-returns c =
-    let h = c .before in
-    let a = h .before .args in
-    λ length owns k b r.
-    let w = h .loop .inv .3 length owns k b r in
-    w .1 1 (h .loop .values) (stays (same (a .queue .now) (a .waits .now) (a .v) length owns (h .loop .values) (h .loop .at) (h .loop .n) (w .0) (c .if1 .taken)))
-
-returns-2 : tie.Need-returns-2 Inv-loop μ-loop
-returns-2 c =
-    let h = c .before .before .before in
-    let a = h .before .args in
-    let rose : at (h .loop .values) (h .loop .at) < a .v = search needs in
-    λ length owns k b r.
-    let w = h .loop .inv .3 length owns k b r in
-    w .1 1 (set (h .loop .values) (h .loop .at) (a .v)) (last (higher (a .queue .now) (a .waits .now) (a .v) length owns (h .loop .values) (h .loop .at) (h .loop .n) (w .0) rose) (λ d. absurd (omega (arith, d, rose))) (omega (arith, c .if2 .taken)))
 
 pub climb-spec : {M : Type 1} → statement M
 climb-spec =
@@ -140,15 +140,15 @@ climb-spec =
     loop-holds
     add-n
     mul-if1
-    array-read-if1
-    mul-values
-    array-write-values
+    element-copy-out-if1
+    returns
+    mul-current
+    element-write-current
     element-copy-out-r
+    returns-2
     wide-requires
     mul-wide
     element-copy-out-wide
     wide-requires-2
     loop-less
-    loop-again
-    returns
-    returns-2)
+    loop-again)

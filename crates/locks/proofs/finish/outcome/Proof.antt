@@ -26,17 +26,17 @@ reply-requires c κs = search needs
 to-store-requires : tie.Need-to-store-requires
 to-store-requires c κs =
     let h = c .before .before .before .before .before .before .before .before in
-    let n = c .before .before .before .before .before .before .before .numbers-after in
-    bytes (h .pre .0) (h .args .e) (h .pre .1) (argument-small h) (n .result .count) (n .ensures (h .pre .0) (h .pre .1))
+    let n = c .before .before .before .before .before .numbers-after in
+    bytes (h .pre .0) (h .args .e) (h .pre .1) (argument-small h) (n .result) (n .ensures (h .pre .0) (h .pre .1))
 
 returns : tie.Need-returns
 returns c t w =
     let h = c .before .before .before .before .before .before .before .before .before .before .before in
-    let n = c .before .before .before .before .before .before .before .before .before .before .numbers-after in
-    let runs = c .before .before .before .before .before .before .running in
-    let answer = c .before .before .before .before .before .reply in
+    let n = c .before .before .before .before .before .before .before .before .numbers-after in
+    let runs = c .before .before .before .before .before .running in
+    let answer = c .before .before .before .before .reply in
     let store = c .before .before .to-store in
-    stepped t (h .args .e) w (argument-small h) (n .result .count) (n .ensures t w)
+    stepped t (h .args .e) w (argument-small h) (n .result) (n .ensures t w)
     (store .result .priority) (store .result .time) (runs .result) (answer .result) (store .ensures) (runs .ensures) (answer .ensures)
 
 pub outcome-spec : {M : Type 1} → statement M

@@ -16,10 +16,6 @@ use Rattle.locks.proofs.Releases.{Followed, vacate-tracked, follower, e
 use borrow.Author.Needs.{needs}
 use Rattle.locks.proofs.release.released.Statement.{statement}
 use Rattle.locks.proofs.release.released.Tie as tie
-use Rattle.locks.proofs.release.released.Reads as reads
-use Rattle.locks.proofs.release.released.Lts as lts
-use Rattle.locks.proofs.release.both_afresh.Reads as both-afresh-reads
-use Rattle.table.proofs.queues.wide.Reads as wide-reads
 
 -- the queues as the code has them, beside those of the laws
 module _ {waiting owns currents queue length : List ℕ} (t : Table) (th cs : ℕ) (k : Releases t waiting owns currents th cs) (q : Has-queues (passed-on t cs) queue length) (w : ℕ) (wide : w ≡ cs) where
@@ -43,12 +39,6 @@ module _ {waiting owns currents queue length : List ℕ} (t : Table) (th cs : �
         Tracked (passed-on t cs) (set waiting h 16) e × (2 ≡ release-count (queues t cs))
     works size full n i e f = follow-tracked t th cs k h follows size full e (rw (i, q .queue-is, q .length-is) at f)
 
-waits-size : (c : lts.Start (wide-reads.Asked, wide-reads.Learnt, both-afresh-reads.Asked, both-afresh-reads.Learnt) reads.Pre reads.Post) → ListN.length (c .args .waits) ≡ 32
-waits-size c = search needs
-
-current-size : (c : lts.Start (wide-reads.Asked, wide-reads.Learnt, both-afresh-reads.Asked, both-afresh-reads.Learnt) reads.Pre reads.Post) → ListN.length (c .args .current) ≡ 32
-current-size c = search needs
-
 wide-requires : tie.Need-wide-requires
 wide-requires c κs = search needs
 
@@ -69,23 +59,29 @@ element-copy-out-wide c = search needs
 wide-requires-2 : tie.Need-wide-requires-2
 wide-requires-2 c κs = search needs
 
-array-write-waiting : tie.Need-array-write-waiting
-array-write-waiting c =
+element-write-waits : tie.Need-element-write-waits
+element-write-waits c =
     let h = c .before .before .before .before .before in
-    both-low (h .pre .0) (h .args .thread) (h .args .resource) (h .pre .1) (h .pre .2) (c .before .before .before .before .wide .result) (c .before .before .before .before .wide .ensures .0) (c .before .before .if1 .left) (c .wide2 .result) (c .wide2 .ensures .0) (h .args .thread) refl .1
+    let w = c .before .before .before .before .wide in
+    let p = h .pre .1 in
+    both-low (p .0) (h .args .thread) (h .args .resource) (p .1) (p .2) (w .result) (w .ensures .0) (c .before .before .if1 .left) (c .wide2 .result) (c .wide2 .ensures .0) (h .args .thread) refl .1
 
 wide-requires-3 : tie.Need-wide-requires-3
 wide-requires-3 c κs = search needs
 
 both-afresh-requires : tie.Need-both-afresh-requires
 both-afresh-requires c κs =
-    let h = c .before .before .before .before .before .before in
-    both-low (h .pre .0) (h .args .thread) (h .args .resource) (h .pre .1) (h .pre .2) (c .before .before .before .before .before .wide .result) (c .before .before .before .before .before .wide .ensures .0) (c .before .before .before .if1 .left) (c .before .wide2 .result) (c .before .wide2 .ensures .0) (c .wide3 .result) (c .wide3 .ensures .0)
+    let h = c .before .before .before .before .before .before .before in
+    let w = c .before .before .before .before .before .before .wide in
+    let p = h .pre .1 in
+    both-low (p .0) (h .args .thread) (h .args .resource) (p .1) (p .2) (w .result) (w .ensures .0) (c .before .before .before .before .if1 .left) (c .before .before .wide2 .result) (c .before .before .wide2 .ensures .0) (c .wide3 .result) (c .wide3 .ensures .0)
 
 returns-2 : tie.Need-returns-2
 returns-2 c =
-    let h = c .before .before .before .before .before .before .before in
-    λ t k q. works t (h .args .thread) (h .args .resource) k q (c .before .before .before .before .before .before .wide .result) (c .before .before .before .before .before .before .wide .ensures .0) (c .before .before .before .before .if1 .left) (c .before .before .wide2 .result) (c .before .before .wide2 .ensures .0) (waits-size h) (current-size h) (c .before .wide3 .result) (c .before .wide3 .ensures .0) (c .both-afresh .result) (c .both-afresh .ensures)
+    let h = c .before .before .before .before .before .before .before .before in
+    let w = c .before .before .before .before .before .before .before .wide in
+    let heir = c .before .before .before .wide2 in
+    λ t k q. works t (h .args .thread) (h .args .resource) k q (w .result) (w .ensures .0) (c .before .before .before .before .before .if1 .left) (heir .result) (heir .ensures .0) (h .pre .0 .0) (h .pre .0 .1) (c .before .wide3 .result) (c .before .wide3 .ensures .0) (c .both-afresh .last .1 .1 .1 .0) (c .both-afresh .ensures)
 
 pub released-spec : {M : Type 1} → statement M
 released-spec =
@@ -97,7 +93,7 @@ released-spec =
     mul-wide
     element-copy-out-wide
     wide-requires-2
-    array-write-waiting
+    element-write-waits
     wide-requires-3
     both-afresh-requires
     returns-2)

@@ -47,18 +47,8 @@ module _ {waiting owns currents queue length : List ℕ} (t : Table) (th cs : �
         Tracked (joined t th cs) (set waiting i cs) e × (n ≡ request-count t (joined t th cs) cs (queues t cs))
     works c = rw index (walked t th cs k (at (joined t th cs .queue) (cs * 32)) held size full (rw (head-now, index, q .queue-is, q .length-is) at c))
 
-abbrev Start : Type 0
-Start = lts.Start (wide-reads.Asked, wide-reads.Learnt, climb-reads.Asked, climb-reads.Learnt) reads.Pre reads.Post
-
-waits-size : (c : Start) → ListN.length (c .args .waits) ≡ 32
-waits-size c = search needs
-
--- `t4` is `current`, which is read by place
-current-size : (c : Start) → ListN.length (c .args .t4) ≡ 32
-current-size c = search needs
-
-thread-small : (c : Start) → c .args .thread < 32
-thread-small c = live-low (c .pre .0) (c .pre .2 .checked .shape) (c .args .thread) (c .pre .2 .alive)
+thread-small : (c : lts.Start (wide-reads.Asked, wide-reads.Learnt, climb-reads.Asked, climb-reads.Learnt) reads.Pre reads.Post) → c .args .thread < 32
+thread-small c = let k = c .pre .1 .2 in live-low (c .pre .1 .0) (k .checked .shape) (c .args .thread) (k .alive)
 
 wide-requires : tie.Need-wide-requires
 wide-requires c κs = search needs
@@ -74,8 +64,14 @@ returns c =
 wide-requires-2 : tie.Need-wide-requires-2
 wide-requires-2 c κs = search needs
 
-array-write-waiting : tie.Need-array-write-waiting
-array-write-waiting c = omega (arith, thread-small (c .before .before .before .before), c .wide2 .ensures .0)
+mul-v : tie.Need-mul-v
+mul-v c = search needs
+
+element-copy-out-v : tie.Need-element-copy-out-v
+element-copy-out-v c = omega (arith, thread-small (c .before .before .before .before), c .wide2 .ensures .0)
+
+element-write-waits : tie.Need-element-write-waits
+element-write-waits c = omega (arith, thread-small (c .before .before .before .before .before), c .before .wide2 .ensures .0)
 
 mul-climb : tie.Need-mul-climb
 mul-climb c = search needs
@@ -83,28 +79,24 @@ mul-climb c = search needs
 element-copy-out-climb : tie.Need-element-copy-out-climb
 element-copy-out-climb c = search needs
 
-mul-climb-2 : tie.Need-mul-climb-2
-mul-climb-2 c = search needs
-
-array-read-climb : tie.Need-array-read-climb
-array-read-climb c = omega (arith, thread-small (c .before .before .before .before .before .before), c .before .before .wide2 .ensures .0)
-
 climb-requires : tie.Need-climb-requires
 climb-requires c κs =
-    let h = c .before .before .before .before .before .before in
-    let p = h .pre in
-    let m = may-climb (p .0) (h .args .thread) (h .args .resource) (p .2) (p .3) (c .before .before .before .before .before .wide .result) (c .before .before .before .before .before .wide .ensures .0) (c .before .before .before .if1 .left) (c .before .before .wide2 .result) (c .before .before .wide2 .ensures .0) (waits-size h) (current-size h) in
-    (h .args .length .now, p .1, m .0, m .1, m .2)
-
-returns-2 : tie.Need-returns-2
-returns-2 c =
     let h = c .before .before .before .before .before .before .before .before in
     let w = c .before .before .before .before .before .before .before .wide in
     let i = c .before .before .before .before .wide2 in
-    let taken = c .before .before .before .before .before .if1 .left in
+    let p = h .pre .1 in
+    let m = may-climb (p .0) (h .args .thread) (h .args .resource) (p .2) (p .3) (w .result) (w .ensures .0) (c .before .before .before .before .before .if1 .left) (i .result) (i .ensures .0) (h .pre .0 .0) (h .pre .0 .1) in
+    (h .pre .0 .1, (h .args .length .now, p .1, m .0, m .1, m .2))
+
+returns-2 : tie.Need-returns-2
+returns-2 c =
+    let h = c .before .before .before .before .before .before .before .before .before in
+    let w = c .before .before .before .before .before .before .before .before .wide in
+    let i = c .before .before .before .before .before .wide2 in
+    let taken = c .before .before .before .before .before .before .if1 .left in
     λ t owns k q.
-    let m = may-climb t (h .args .thread) (h .args .resource) k q (w .result) (w .ensures .0) taken (i .result) (i .ensures .0) (waits-size h) (current-size h) in
-    works t (h .args .thread) (h .args .resource) k q (w .result) (w .ensures .0) taken (i .result) (i .ensures .0) (waits-size h) (current-size h) (c .before .climb .ensures (h .args .length .now) owns (m .0) (m .1) (m .2))
+    let m = may-climb t (h .args .thread) (h .args .resource) k q (w .result) (w .ensures .0) taken (i .result) (i .ensures .0) (h .pre .0 .0) (h .pre .0 .1) in
+    works t (h .args .thread) (h .args .resource) k q (w .result) (w .ensures .0) taken (i .result) (i .ensures .0) (h .pre .0 .0) (h .pre .0 .1) (c .climb .ensures (h .args .length .now) owns (m .0) (m .1) (m .2))
 
 pub requested-spec : {M : Type 1} → statement M
 requested-spec =
@@ -114,10 +106,10 @@ requested-spec =
     element-copy-out-if1
     returns
     wide-requires-2
-    array-write-waiting
+    mul-v
+    element-copy-out-v
+    element-write-waits
     mul-climb
     element-copy-out-climb
-    mul-climb-2
-    array-read-climb
     climb-requires
     returns-2)

@@ -1,9 +1,7 @@
 -- `locks::slots::slot_set` meets its contract. Assumes nothing.
 use Prim.Native.Nat.{_≤_}
-use mathlib.Core.Path.{_≡_, refl}
-use lib.ListN.{length}
-use Rattle.locks.proofs.SlotWork.{set-tracked}
 use borrow.Author.Needs.{needs}
+use Rattle.locks.proofs.SlotWork.{set-tracked}
 use Rattle.locks.proofs.slots.slot_set.Statement.{statement}
 use Rattle.locks.proofs.slots.slot_set.Tie as tie
 
@@ -13,19 +11,18 @@ number-requires c κs = search needs
 afresh-requires : tie.Need-afresh-requires
 afresh-requires c κs = search needs
 
-mul-all : tie.Need-mul-all
-mul-all c = search needs
+mul-current : tie.Need-mul-current
+mul-current c = search needs
 
-array-write-all : tie.Need-array-write-all
-array-write-all c = search needs
+element-write-current : tie.Need-element-write-current
+element-write-current c = search needs
 
 returns : tie.Need-returns
-returns c =
-    let a = c .before .before .before .args in
-    let size : length (a .current) ≡ 32 = search needs in
+returns c t waits owns k d q l =
+    let h = c .before .before .before in
+    let a = h .args in
     let small : a .priority ≤ 255 = search needs in
-    ((λ t owns k d q l. rw d (set-tracked t (k .checked) (a .thread) (k .thread) (k .early) size (a .priority) (c .afresh .result) small (k .idle) (rw (c .before .before .number .ensures, d, q, l) at (c .afresh .ensures)))), refl)
+    rw d (set-tracked t (k .checked) (a .thread) (k .thread) (k .early) (h .pre .1) (a .priority) (c .afresh .result) small (k .idle) (rw (c .before .before .number .ensures, d, q, l) at (c .afresh .ensures)))
 
 pub slot-set-spec : {M : Type 1} → statement M
-slot-set-spec =
-    tie.close (tie.spec number-requires afresh-requires mul-all array-write-all returns)
+slot-set-spec = tie.close (tie.spec number-requires afresh-requires mul-current element-write-current returns)
