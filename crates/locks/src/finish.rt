@@ -32,17 +32,18 @@ fn time_in(n: u32) -> u16
     }
 }
 
-// What the table stores of the current precedences.
-pub struct Stored {
+// What an accepted event leaves besides the slot or the queue: the answer, and the current precedences to be stored.
+pub struct Ending {
+    pub answer: Answer,
     pub priority: [u8; Table::THREADS],
     pub time: [u16; Table::THREADS],
 }
 
-// The priorities and times in the numbers. One loop for both: a loop for each would be unrolled whole, and its stores would be so many
-// uses of the table that the compiler no longer sees that one copy of it is enough.
-fn to_store(current: &[u32; Table::THREADS]) -> Stored
+// The answer, and the priorities and times in the numbers. One loop for both: a loop for each would be unrolled whole, and its stores
+// would be so many uses of the table that the compiler no longer sees that one copy of it is enough.
+fn to_store(current: &[u32; Table::THREADS], answer: Answer) -> Ending
     requires { ⌜ ((th : ℕ) → th < 32 → at (now current) th / 65536 < 256) ⌝ }
-    ensures { λ s. ⌜ Stored-of (now (current .entry)) (s .priority) (s .time) ⌝ }
+    ensures { λ e. ⌜ (e .answer ≡ answer) × Stored-of (now (current .entry)) (e .priority) (e .time) ⌝ }
 {
     let mut priority = [0u8; Table::THREADS];
     let mut time = [0u16; Table::THREADS];
@@ -53,14 +54,11 @@ fn to_store(current: &[u32; Table::THREADS]) -> Stored
         time[i] = time_in(n);
         i += 1;
     }
-    Stored { priority, time }
-}
-
-// What an accepted event leaves besides the slot or the queue: the answer, and the current precedences to be stored.
-pub struct Ending {
-    pub answer: Answer,
-    pub priority: [u8; Table::THREADS],
-    pub time: [u16; Table::THREADS],
+    Ending {
+        answer,
+        priority,
+        time,
+    }
 }
 
 // The queues lent are those after the event of e; the numbers are those before it, and the clock is its time.
@@ -81,12 +79,5 @@ pub fn outcome<'a>(
     let mut values = current;
     let count = numbers_after(queue, length, own, &mut waiting, &mut values, clock, e);
     let answer = reply(0, running(&waiting, &values), count);
-    let s = to_store(&values);
-    let priority = s.priority;
-    let time = s.time;
-    Ending {
-        answer,
-        priority,
-        time,
-    }
+    to_store(&values, answer)
 }

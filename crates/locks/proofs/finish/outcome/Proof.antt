@@ -1,5 +1,6 @@
 -- `locks::finish::outcome` meets its contract. Assumes nothing.
 use Prim.Native.Nat.{_≤_}
+use mathlib.Core.Path.{_∙_}
 use borrow.Author.Needs.{needs}
 use Rattle.locks.proofs.Stepped.{bytes, stepped}
 use Rattle.locks.proofs.finish.outcome.Statement.{statement}
@@ -31,13 +32,13 @@ to-store-requires c κs =
 
 returns : tie.Need-returns
 returns c t w =
-    let h = c .before .before .before .before .before .before .before .before .before .before .before in
-    let n = c .before .before .before .before .before .before .before .before .numbers-after in
-    let runs = c .before .before .before .before .before .running in
-    let answer = c .before .before .before .before .reply in
-    let store = c .before .before .to-store in
+    let h = c .before .before .before .before .before .before .before .before .before in
+    let n = c .before .before .before .before .before .before .numbers-after in
+    let runs = c .before .before .before .running in
+    let answer = c .before .before .reply in
+    let store = c .to-store in
     stepped t (h .args .e) w (argument-small h) (n .result) (n .ensures t w)
-    (store .result .priority) (store .result .time) (runs .result) (answer .result) (store .ensures) (runs .ensures) (answer .ensures)
+    (store .result .priority) (store .result .time) (runs .result) (store .result .answer) (store .ensures .1) (runs .ensures) (store .ensures .0 ∙ answer .ensures)
 
 pub outcome-spec : {M : Type 1} → statement M
 outcome-spec = tie.close (tie.spec numbers-after-requires running-requires reply-requires to-store-requires returns)

@@ -1,5 +1,6 @@
 -- `locks::finish::to_store` meets its contract. The loop's invariant: the priorities and times of the places passed are there. Assumes nothing.
 use Prim.Native.Nat.{_/_, _-_, _≤_}
+use mathlib.Core.Path.{refl}
 use native.Mathlib.Omega.{arith}
 use borrow.Author.Needs.{needs}
 use Rattle.table.specs.Table.{at}
@@ -9,10 +10,10 @@ use Rattle.locks.proofs.finish.to_store.Statement.{statement}
 use Rattle.locks.proofs.finish.to_store.Tie as tie
 
 abbrev Inv-loop : tie.InvT-loop
-Inv-loop current priority₀ time₀ i₀ priority time i = (i ≤ 32) × Filled (λ th. at current th / 65536) i priority × Filled (λ th. time-in (at current th)) i time
+Inv-loop current answer priority₀ time₀ i₀ priority time i = (i ≤ 32) × Filled (λ th. at current th / 65536) i priority × Filled (λ th. time-in (at current th)) i time
 
 abbrev μ-loop : tie.MeasureT-loop
-μ-loop current priority₀ time₀ i₀ priority time i = 32 - i
+μ-loop current answer priority₀ time₀ i₀ priority time i = 32 - i
 
 loop-holds : tie.Need-loop-holds Inv-loop μ-loop
 loop-holds c =
@@ -59,13 +60,15 @@ loop-again c =
 
 returns : tie.Need-returns Inv-loop μ-loop
 returns c =
-    let h = c .before .loop .inv in
-    record {
-      priorities-size = h .1 .size;
-      times-size = h .2 .size;
-      priorities-right = λ th l. h .1 .right th (omega arith);
-      times-right = λ th l. h .2 .right th (omega arith);
-    }
+    let h = c .before .loop .inv in (
+      refl,
+      record {
+        priorities-size = h .1 .size;
+        times-size = h .2 .size;
+        priorities-right = λ th l. h .1 .right th (omega arith);
+        times-right = λ th l. h .2 .right th (omega arith);
+      },
+    )
 
 pub to-store-spec : {M : Type 1} → statement M
 to-store-spec =
