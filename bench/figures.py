@@ -24,7 +24,7 @@ KINDS = {
 }
 CALLS = ['step', 'running', 'thread', 'resource', 'empty']
 # The test whether a table is sound: a function of its own on either side, and every call but `empty` makes it once.
-OUR_TEST, FAST_TEST = 'table::check::check', 'fast_look'
+OUR_TEST, FAST_TEST = 'soundness::check::check', 'fast_look'
 # A plain C version, measured the same way: what is known of it.
 PLAIN = {('small', 'mean'): 4000, ('contended', 'mean'): 4400, ('chain_of_16', 'worst'): 8500}
 MOST_TO_C, MOST_AT_32, MOST_STACK = 1.4, 12000, 5120
@@ -174,7 +174,7 @@ show apart. Set times 64 apart share a mark in the library's test whether they d
 {step}
 ## The test whether the table is sound
 
-The test alone: the function `table::check::check` of the library, and `fast_look` in `fast.c`, which is kept out of line for this. Both also work out
+The test alone: the function `soundness::check::check` of the library, and `fast_look` in `fast.c`, which is kept out of line for this. Both also work out
 what the rest of a call needs. Every call makes it once: the step on the table before the event, and the three queries, asked after each event, on
 the table after it.
 
@@ -201,7 +201,7 @@ or by hand, after it has built the programs once:
 
     bench/count -s -f locktable_step -f fast_step target/bench/cost vector crates/drill_vectors/data/small.in
     bench/count -s -f locktable_step -f fast_step target/bench/cost live 32 3000
-    bench/count -f table::check::check -f fast_look target/bench/cost chain falling 64
+    bench/count -f soundness::check::check -f fast_look target/bench/cost chain falling 64
     bench/stack target/bench/cost
 
 `bench/count` with `-f ours_p_taken -f fast_p_taken` and so on gives one kind; `usage` in `bench/cost.c` lists the histories.

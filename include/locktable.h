@@ -3,17 +3,17 @@
  * You keep the only table and lend it to each call. It must be a whole `struct locktable` that nobody else touches during the call. What bytes
  * it holds does not matter: a table that isn't sound is refused. No call keeps the pointer, allocates or waits, and each comes to an end.
  *
- * For C11 or C++11 on x86-64; link libkernel.a (README.md, "From C"). A call needs of its caller:
+ * For C11 or C++11 on x86-64; link liblocktable.a (README.md, "From C"). A call needs of its caller:
  *   - memcpy and memset;
  *   - the stack aligned to 16 bytes, as the ABI of x86-64 has it, since the library stores there by aligned SSE instructions: a kernel that is
  *     compiled for a boundary of 8 (-mpreferred-stack-boundary=3) would fault;
  *   - SSE2 switched on, and the registers xmm0 to xmm15 saved by whoever still needs what they hold;
  *   - up to 2 KiB of stack (measured; bench/FIGURES.md). The red zone is used, the 128 bytes below the stack pointer: no interrupt may write there.
  *
- * What this file says of the calls is proved, for every table and every argument: in crates/kernel/src/lib.rt that a call does to the lent table
+ * What this file says of the calls is proved, for every table and every argument: in crates/locktable/src/lib.rt that a call does to the lent table
  * what the function does that has it by value; in crates/locks/src what that function answers and makes of the table (step.rt, queries.rt), in
- * the terms that crates/locks/specs and crates/table/specs define; in crates/locks/proofs that an accepted event leaves a sound table
- * (StaysSound.antt) and that a count is at most 16 (Sixteen.antt). What a caller needs, above, and the layout, below, are not proved. */
+ * the terms that the specs of crates locks, events, refusals and table define; in crates/events/proofs that an accepted event leaves a sound table
+ * (kept/Stays.antt) and that a count is at most 16 (walk/Sixteen.antt). What a caller needs, above, and the layout, below, are not proved. */
 #ifndef LOCKTABLE_H
 #define LOCKTABLE_H
 

@@ -2,7 +2,7 @@
 -- Assumes nothing.
 use Prim.Native.Nat.{_≤_, _<_}
 use mathlib.Core.Path.{_≡_, refl, sym, ap, subst, _∙_}
-use mathlib.Core.Bool.{Bool, true, false, false≢true}
+use mathlib.Core.Bool.{Bool, true, false}
 use mathlib.Core.Logic.{_≢_}
 use native.Mathlib.Decide.{ℕ-discrete, decLt}
 use native.Mathlib.Omega.{arith}
@@ -11,16 +11,17 @@ use Rattle.protocol.specs.Events.{Thread, Resource}
 use Rattle.table.specs.declared.Table.{Table}
 use Rattle.table.specs.Table.{at, live}
 use Rattle.table.specs.Sound.{Sound}
-use Rattle.table.specs.Checked.{Shape}
+use Rattle.table.specs.code.Shape.{Shape}
 use Rattle.table.specs.Compute.{is-sound}
-use Rattle.table.proofs.Decided.{tells-sound}
-use Rattle.locks.specs.declared.Record.{Record}
+use Rattle.table.proofs.tests.Decided.{tells-sound}
+use Rattle.refusals.specs.declared.Record.{Record}
+use Rattle.refusals.specs.Refusals.{refusals, lowest}
+use Rattle.refusals.specs.Applies.{Given}
+use Rattle.refusals.proofs.tests.Tells.{tells-false}
+use Rattle.refusals.proofs.given.Exactly.{exactly, given-low}
+use Rattle.events.proofs.kept.Stays.{Right}
 use Rattle.locks.specs.declared.Done.{Done}
-use Rattle.locks.specs.Refusals.{refusals, lowest}
-use Rattle.locks.specs.Applies.{Given}
 use Rattle.locks.specs.Queries.{running-answer, thread-told, thread-answer, resource-told, resource-answer}
-use Rattle.locks.proofs.Exactly.{exactly, given-low}
-use Rattle.locks.proofs.StaysSound.{Right}
 use Rattle.demands.specs.Calls.{Any-table, Any-record, Calls, As-stated}
 use Rattle.demands.specs.Fixed as fixed
 use Rattle.demands.specs.Fixed.{Running-number, Thread-number, Resource-number}
@@ -47,7 +48,7 @@ module _ (t : Table) (s : Shape t) where
     where
       go : (b : Bool) → is-sound t ≡ b → A
       go true e = sound (s, tells-sound t s .0 e)
-      go false e = unsound e (λ k. false≢true (sym e ∙ tells-sound t s .1 k))
+      go false e = unsound e (tells-false (tells-sound t s) e)
 
   running-fixed : Running-number t (running-answer t .number)
   running-fixed = by-soundness (Running-number t (running-answer t .number))

@@ -5,35 +5,31 @@ use Prim.Native.Nat.{_≤_, _<_}
 use mathlib.Core.Path.{_≡_, sym, ap, subst, _∙_}
 use mathlib.Core.Logic.{_↔_}
 use mathlib.Core.List.{List, _∷_}
-use native.Mathlib.Decide.{ℕ-discrete}
 use native.Mathlib.Omega.{arith}
 use lib.ListN.{length}
 use Rattle.protocol.specs.Sets.{_∈_}
-use Rattle.protocol.specs.Events.{Thread, Resource, Event, Create, Exit, Set, P, «V», State, threads}
-use Rattle.protocol.specs.Schedule.{wq}
+use Rattle.protocol.specs.Events.{Thread, Resource, Event, State, threads}
 use Rattle.protocol.specs.Rules.{step, valid}
-use Rattle.protocol.proofs.Kept.{Kept, valid-kept}
 use Rattle.table.specs.declared.Table.{Table}
 use Rattle.table.specs.Table.{Runner}
 use Rattle.table.specs.Sound.{Sound}
 use Rattle.table.specs.Compute.{runner}
-use Rattle.locks.specs.declared.Record.{Record}
+use Rattle.table.proofs.sound.Read.{runs}
+use Rattle.refusals.specs.declared.Record.{Record}
+use Rattle.refusals.proofs.given.Formed.{formed-kind}
 use Rattle.locks.specs.declared.Done.{Done}
-use Rattle.locks.specs.Events.{heir}
-use Rattle.locks.specs.Refusals.{refusals, lowest}
 use Rattle.locks.specs.Queries.{thread-refused, resource-refused}
-use Rattle.locks.proofs.OfSound.{runs}
-use Rattle.locks.proofs.Admitted.{admitted, admitted-passes}
 use Rattle.demands.specs.Calls.{Any-table, Any-record, Calls, As-stated}
-use Rattle.demands.specs.Runs.{table-after, number-of, Any-records, Writes, create, exit, set-anew, request, release, History, Well-formed}
+use Rattle.demands.specs.Runs.{table-after, number-of, Any-records, Writes, History, Well-formed}
 use Rattle.demands.specs.Told.{Shows, Names-running, Running-told, Thread-told, Resource-told}
+use Rattle.demands.proofs.Agrees.{Reached, good}
 use Rattle.demands.proofs.Same.{names-running, shows}
 use Rattle.demands.proofs.Queries.{thread-absent, resource-absent, running-told, thread-told, dead-told, resource-told}
-use Rattle.demands.proofs.Chosen.{heir-chosen}
-use Rattle.demands.proofs.Rules.{admitted-steps, steps-admitted}
+use Rattle.demands.proofs.Chosen.{some-event}
+use Rattle.demands.proofs.Rules.{accepted-exactly}
 use Rattle.demands.proofs.InMemory.{right-any}
 use Rattle.demands.proofs.Numbers.{stated-number, running-is}
-use Rattle.demands.proofs.Reached.{Reached, answers, reached, history-one}
+use Rattle.demands.proofs.Reached.{answers, reached, history-one}
 
 -- What is so after the records es, refused ones included:
 pub record After (c : Calls) (es : List Record) (s : State) : Type 0 where
@@ -54,7 +50,7 @@ pub record After (c : Calls) (es : List Record) (s : State) : Type 0 where
   pub resource-query : (cs : Resource) → cs < 16 → Resource-told s cs (c .resource-of (table-after c es) cs)
   pub no-such-resource : (cs : Resource) → 15 < cs → cs ≤ 255 → c .resource-of (table-after c es) cs ≡ resource-refused 4
   -- a well-formed record, while fewer than 65,535 events are accepted, has an event, and is accepted exactly when the paper's rules admit it
-  pub admits : (e : Record) → Well-formed e → length s < 65535 → ((ev : Event) × Writes s e ev) × ((ev : Event) → Writes s e ev → (number-of c es e ≡ 0) ↔ step s ev)
+  pub admits : (e : Record) → Any-record e → Well-formed e → length s < 65535 → ((ev : Event) × Writes s e ev) × ((ev : Event) → Writes s e ev → (number-of c es e ≡ 0) ↔ step s ev)
   -- any record's answer names the running thread of the state afterwards
   pub answer-names : (e : Record) → Any-record e → (s′ : State) → History c (e ∷ es) s′ → Names-running s′ (c .step (table-after c es) e .answer .running)
 
@@ -62,43 +58,17 @@ pub record After (c : Calls) (es : List Record) (s : State) : Type 0 where
 abbrev pub Demand-2 : Calls → Type 0
 Demand-2 c = (es : List Record) → Any-records es → (s : State) × After c es s
 
--- a record has an event in every state that a table agrees with
-event-of : (t : Table) (s : State) → Reached t s → (e : Record) → Well-formed e → (ev : Event) × Writes s e ev
-event-of t s r e w = go (ℕ-discrete (e .kind) 1) (ℕ-discrete (e .kind) 2) (ℕ-discrete (e .kind) 3) (ℕ-discrete (e .kind) 4)
-  where
-    go : Dec (e .kind ≡ 1) → Dec (e .kind ≡ 2) → Dec (e .kind ≡ 3) → Dec (e .kind ≡ 4) → (ev : Event) × Writes s e ev
-    go (yes k) b c d = (Create (e .thread) (e .argument), create k)
-    go (no n) (yes k) c d = (Exit (e .thread), exit k)
-    go (no n) (no m) (yes k) d = (Set (e .thread) (e .argument), set-anew k)
-    go (no n) (no m) (no l) (yes k) = (P (e .thread) (e .argument), request k)
-    go (no n) (no m) (no l) (no k) = («V» (e .thread) (e .argument) (heir t (wq s (e .argument))), release (omega (arith, w .kind-from, w .kind-to)) (heir-chosen t s (r .agrees) (r .right) (e .argument)))
-
--- a well-formed record is any record
-pub well-any : {e : Record} → Well-formed e → Any-record e
-well-any w = record { kind = omega (arith, w .kind-to); thread = omega (arith, w .thread); argument = w .priority; zero = omega (arith, w .fourth) }
-
 module _ (c : Calls) (is : As-stated c) where
   -- a well-formed record is accepted exactly when the rules admit its event
-  admission : (es : List Record) (s : State) → Reached (table-after c es) s → (e : Record) → Well-formed e → length s < 65535 → (ev : Event) → Writes s e ev → (number-of c es e ≡ 0) ↔ step s ev
-  admission es s r e w short ev v = (
-    λ z. admitted-steps t e s (r .agrees) kept (admitted t e (r .right .0) (r .right .1) (sym number ∙ z)) v,
-    λ st. number ∙ admitted-passes t e (r .right .0) (r .right .1) (steps-admitted t e s (r .agrees) kept w (omega (arith, r .agrees .clock)) v st),
-  )
-    where
-      t : Table
-      t = table-after c es
-
-      kept : Kept s
-      kept = valid-kept s (r .by-rules)
-
-      number : number-of c es e ≡ lowest (refusals t e)
-      number = stated-number c is t e (right-any t (r .right)) (well-any w)
+  admission : (es : List Record) (s : State) → Reached (table-after c es) s → (e : Record) → Any-record e → Well-formed e → length s < 65535 → (ev : Event) → Writes s e ev → (number-of c es e ≡ 0) ↔ step s ev
+  admission es s r e any formed short ev w =
+      rw (stated-number c is (table-after c es) e (right-any (table-after c es) (r .right)) any) (accepted-exactly r formed (any .argument) (omega (arith, r .agrees .clock)) w)
 
   -- the step's answer names the running thread of the state that it leads to
   answer-runs : (es : List Record) (s : State) → Reached (table-after c es) s → (e : Record) → Any-record e → (s′ : State) → Reached (table-after c (e ∷ es)) s′ →
       Names-running s′ (c .step (table-after c es) e .answer .running)
-  answer-runs es s r e any s′ r′ = names-running (table-after c (e ∷ es)) s′ (r′ .agrees) (valid-kept s′ (r′ .by-rules)) (c .step (table-after c es) e .answer .running)
-      (subst (Runner (table-after c (e ∷ es))) (sym named) (runs (table-after c (e ∷ es)) (r′ .right .0) (r′ .right .1)))
+  answer-runs es s r e any s′ r′ = names-running r′ (c .step (table-after c es) e .answer .running)
+      (subst (Runner (table-after c (e ∷ es))) (sym named) (runs (table-after c (e ∷ es)) (good r′)))
     where
       named : c .step (table-after c es) e .answer .running ≡ runner (table-after c (e ∷ es))
       named = let q = answers c is r e any in ap (λ (d : Done). d .answer .running) q ∙ running-is (table-after c es) e (r .right) ∙ sym (ap (λ (d : Done). runner (d .table)) q)
@@ -107,27 +77,24 @@ module _ (c : Calls) (is : As-stated c) where
   all-of-it : (es : List Record) → Any-records es → (s : State) → History c es s → Reached (table-after c es) s → After c es s
   all-of-it es any s h r = record {
     history = h;
-    only = λ s′ h′. history-one c (r .by-rules) h h′;
+    only = λ s′. history-one c is es any h;
     by-rules = r .by-rules;
     sound = r .right .1;
     memory = memory;
-    table = shows t s (r .agrees) kept (r .right);
-    running-query = rw (is .running-of t memory tt) (running-told t s (r .agrees) kept (r .right));
-    thread-query = λ th l. rw (is .thread-of t th memory (omega (arith, shows t s (r .agrees) kept (r .right) .ids th l)) tt) (thread-told t s (r .agrees) kept (r .right) th l);
-    dead-thread = λ th low n. is .thread-of t th memory (omega arith) tt ∙ dead-told t s (r .agrees) kept (r .right) th low n;
+    table = shows r;
+    running-query = rw (is .running-of t memory tt) (running-told r);
+    thread-query = λ th l. rw (is .thread-of t th memory (omega (arith, shows r .ids th l)) tt) (thread-told r th l);
+    dead-thread = λ th low n. is .thread-of t th memory (omega arith) tt ∙ dead-told r th low n;
     no-such-thread = λ th high small. is .thread-of t th memory small tt ∙ thread-absent t (r .right) th high;
-    resource-query = λ cs low. rw (is .resource-of t cs memory (omega arith) tt) (resource-told t s (r .agrees) kept (r .right) cs low);
+    resource-query = λ cs low. rw (is .resource-of t cs memory (omega arith) tt) (resource-told r cs low);
     no-such-resource = λ cs high small. is .resource-of t cs memory small tt ∙ resource-absent t (r .right) cs high;
-    admits = λ e w short. (event-of t s r e w, admission es s r e w short);
+    admits = λ e any-e formed short. (some-event r (formed-kind formed), admission es s r e any-e formed short);
     answer-names = λ e any-e s′ h′. let w = reached c is (e ∷ es) (any-e, any) in
-        answer-runs es s r e any-e s′ (subst (λ (x : State). Reached (table-after c (e ∷ es)) x) (sym (history-one c (w .2 .by-rules) (w .1) h′)) (w .2));
+        answer-runs es s r e any-e s′ (subst (λ (x : State). Reached (table-after c (e ∷ es)) x) (sym (history-one c is (e ∷ es) (any-e, any) (w .1) h′)) (w .2));
   }
     where
       t : Table
       t = table-after c es
-
-      kept : Kept s
-      kept = valid-kept s (r .by-rules)
 
       memory : Any-table t
       memory = right-any t (r .right)

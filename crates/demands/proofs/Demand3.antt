@@ -11,16 +11,14 @@ use native.Mathlib.Omega.{arith}
 use Rattle.protocol.specs.Sets.{_∈_, set}
 use Rattle.protocol.specs.Events.{Thread, Event, State, threads, priority, prec, _≼_}
 use Rattle.protocol.specs.Schedule.{cprec, running}
-use Rattle.protocol.specs.Rules.{valid}
 use Rattle.protocol.specs.Demand3.{Moment, holds-or-waits, spares, Premises, calls, calls-of-others, others, Number, Until}
 use Rattle.protocol.proofs.Demand3.{first-sentence, second-sentence, others-number}
 use Rattle.protocol.proofs.Theorems.{one-cprec}
 use Rattle.table.specs.Table.{stored}
-use Rattle.locks.specs.declared.Record.{Record}
+use Rattle.refusals.specs.declared.Record.{Record}
 use Rattle.demands.specs.Calls.{Calls, As-stated}
 use Rattle.demands.specs.Runs.{table-after, Any-records, History, accepted, refused}
 use Rattle.demands.specs.Told.{Names-running}
-use Rattle.demands.proofs.Reached.{history-one}
 use Rattle.demands.proofs.Demand2.{After, demand-2}
 
 -- The moment is after the records es, and es′ are the records since, both lists the newest first; s and s′ are the events of theirs that were accepted, as demand 2
@@ -56,10 +54,10 @@ pub record Demand-3 (c : Calls) : Type 0 where
   pub number : (th : Thread) (es : List Record) (s : State) → Any-records es → History c es s → (n : ℕ) × Number (others s th) n
 
 -- the events accepted since stand before those of the moment
-added : (c : Calls) (es es′ : List Record) {s S : State} → valid s → History c es s → History c (es′ ++ es) S → (s′ : List Event) × (S ≡ s′ ++ s)
-added c es [] v h k = ([], history-one c v h k)
-added c es (e ∷ es′) v h (accepted {ev = ev} k z w) = let r = added c es es′ v h k in (ev ∷ r .0, ap (_∷_ ev) (r .1))
-added c es (e ∷ es′) v h (refused k n) = added c es es′ v h k
+added : (c : Calls) (es es′ : List Record) {s : State} → ((S : State) → History c es S → S ≡ s) → {S : State} → History c (es′ ++ es) S → (s′ : List Event) × (S ≡ s′ ++ s)
+added c es [] only {S} k = ([], only S k)
+added c es (e ∷ es′) only (accepted {ev = ev} k z w) = let r = added c es es′ only k in (ev ∷ r .0, ap (_∷_ ev) (r .1))
+added c es (e ∷ es′) only (refused k n) = added c es es′ only k
 
 any-before : (es es′ : List Record) → Any-records (es′ ++ es) → Any-records es
 any-before es [] any = any
@@ -91,7 +89,7 @@ module _ (c : Calls) (is : As-stated c) where
   events-since : (es es′ : List Record) (s : State) → Any-records (es′ ++ es) → History c es s → (s′ : List Event) × History c (es′ ++ es) (s′ ++ s)
   events-since es es′ s any h =
       let w = demand-2 c is (es′ ++ es) any in
-      let r = added c es es′ (after es s (any-before es es′ any) h .by-rules) h (w .1 .history) in
+      let r = added c es es′ (after es s (any-before es es′ any) h .only) (w .1 .history) in
       (r .0, subst (History c (es′ ++ es)) (r .1) (w .1 .history))
 
 -- the calls meet it

@@ -5,10 +5,10 @@ use mathlib.Core.List.{List, [], _∷_, map}
 use Rattle.table.specs.declared.Table.{Table}
 use Rattle.table.specs.Table.{at, empty}
 use Rattle.table.specs.Compute.{all-below, each, member, first-or-32, differ, find-below, is-live, holder, is-waiting, waits-for, blocker, depends, is-higher, highest-behind, current, is-ready, leader, runner, ends, same, dead-zero, spare-zero, time-right, queue-right, waits-once, current-right, is-sound}
-use Rattle.locks.specs.Events.{tabulate, settled, with-slot, with-queue, highest-own, heir, created, exited, set-anew, requested, released}
-use Rattle.locks.specs.Count.{walk, request-count, release-count}
-use Rattle.locks.specs.Refusals.{malformed, leads, holds-any, unsound, refusals, lowest}
-use Rattle.locks.specs.Answers.{accepted, refused, applied, answerOf}
+use Rattle.refusals.specs.Refusals.{malformed, leads, holds-any, unsound, by-record, by-thread, by-queues, refusals, lowest}
+use Rattle.events.specs.Events.{tabulate, settled, with-slot, with-queue, changed, highest-own, heir, named, event-of}
+use Rattle.events.specs.Count.{walk, request-count, release-count, count}
+use Rattle.locks.specs.Answers.{accepted, refused, carried-out, answerOf}
 
 -- kind, thread, argument, fourth byte
 pub data Bytes : Type 0 where
@@ -103,5 +103,5 @@ marked =
 
 -- each list of records gives its outcome
 pub as-marked : map (λ c. outcome empty (c .input)) marked ≡ map (λ c. c .wanted) marked
-unfolding all-below each member first-or-32 differ find-below is-live holder is-waiting waits-for blocker depends is-higher highest-behind current is-ready leader runner ends same dead-zero spare-zero time-right queue-right waits-once current-right is-sound tabulate settled with-slot with-queue highest-own heir created exited set-anew requested released walk request-count release-count malformed leads holds-any unsound refusals lowest accepted refused applied answerOf
+unfolding all-below each member first-or-32 differ find-below is-live holder is-waiting waits-for blocker depends is-higher highest-behind current is-ready leader runner ends same dead-zero spare-zero time-right queue-right waits-once current-right is-sound malformed leads holds-any unsound by-record by-thread by-queues refusals lowest tabulate settled with-slot with-queue changed highest-own heir named event-of walk request-count release-count count accepted refused carried-out answerOf
 as-marked = refl

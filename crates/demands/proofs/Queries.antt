@@ -8,24 +8,24 @@ use native.Mathlib.Omega.{arith}
 use borrow.Author.Tests.{not-true, lt-ltb, le-ltb}
 use lib.ListN.{length}
 use Rattle.protocol.specs.Sets.{_∈_, set}
-use Rattle.protocol.specs.Events.{Resource, State, threads, Precedence}
-use Rattle.protocol.specs.Graph.{Queues, waits}
+use Rattle.protocol.specs.Events.{Thread, Resource, State, threads}
+use Rattle.protocol.specs.Graph.{waits}
 use Rattle.protocol.specs.Schedule.{wq, cprec}
 use Rattle.protocol.proofs.Lists.{Holding}
-use Rattle.protocol.proofs.Kept.{Kept}
 use Rattle.table.specs.declared.Table.{Table}
 use Rattle.table.specs.Table.{live}
 use Rattle.table.specs.Compute.{first-or-32, holder, is-live, is-sound, runner, waits-for}
-use Rattle.table.proofs.Decided.{tells-sound}
-use Rattle.table.proofs.Reflect.{tells-not}
-use Rattle.table.proofs.Computed.{tells-live}
-use Rattle.table.proofs.Rows.{live-low}
-use Rattle.locks.specs.Refusals.{unsound, lowest}
+use Rattle.table.proofs.tests.Decided.{tells-sound}
+use Rattle.table.proofs.tests.Reflect.{tells-not}
+use Rattle.table.proofs.tests.Computed.{tells-live}
+use Rattle.table.proofs.sound.Queues.{live-low}
+use Rattle.table.proofs.sound.Read.{runs, waited, current-stored, queue-length}
+use Rattle.refusals.specs.Refusals.{unsound, lowest}
+use Rattle.events.proofs.kept.Stays.{Right}
 use Rattle.locks.specs.Queries.{running-refusals, running-answer, thread-refusals, thread-refused, thread-told as thread-table, thread-answer, resource-refusals, resource-refused, resource-told as resource-table, resource-answer}
-use Rattle.locks.proofs.OfSound.{runs, waited, current-stored, waiters-are, queue-length}
-use Rattle.locks.proofs.StaysSound.{Right}
+use Rattle.locks.proofs.Told.{waiters-are}
 use Rattle.demands.specs.Told.{Running-told, Names-waited, Thread-told, Names-holder, Resource-told}
-use Rattle.demands.proofs.Agrees.{Agrees}
+use Rattle.demands.proofs.Agrees.{Reached, good, ordered, same-queues}
 use Rattle.demands.proofs.Same.{names-running, shows}
 
 module _ (t : Table) (right : Right t) where
@@ -83,40 +83,40 @@ unfolding first-or-32
 first-names [] low = inr (refl, refl)
 first-names (x ∷ xs) low = inl (low x (inl refl), (inl refl, refl))
 
-module _ (t : Table) (s : State) (a : Agrees t s) (k : Kept s) where
+module _ {t : Table} {s : State} (r : Reached t s) where
   -- `waits-for` names what a thread waits for in the state
-  names-waited : Right t → (th : ℕ) → Names-waited s th (waits-for t th)
-  names-waited right th = subst (λ (q : Queues). ((waits-for t th < 16) × waits q th (waits-for t th)) ⊎ ((waits-for t th ≡ 16) × ((cs : Resource) → ¬ waits q th cs))) (a .queues) (waited t (right .0) (right .1) th)
+  names-waited : (th : Thread) → Names-waited s th (waits-for t th)
+  names-waited th = same-queues r (λ q. ((waits-for t th < 16) × waits q th (waits-for t th)) ⊎ ((waits-for t th ≡ 16) × ((cs : Resource) → ¬ waits q th cs))) .0 (waited t (good r) th)
 
   -- `holder` names the holder in the state
-  names-holder : Right t → (cs : ℕ) → Names-holder s cs (holder t cs)
+  names-holder : (cs : Resource) → Names-holder s cs (holder t cs)
   unfolding holder
-  names-holder right cs = rw (shows t s a k right .queues cs) (first-names (wq s cs) (λ x i. shows t s a k right .ids x (k .entries cs x i)))
+  names-holder cs = rw (shows r .queues cs) (first-names (wq s cs) (λ x i. shows r .ids x (ordered r .entries cs x i)))
 
   -- the running query names the running thread
-  pub running-told : Right t → Running-told s (running-answer t)
-  running-told right = rw (running-is t right) (refl, names-running t s a k (runner t) (runs t (right .0) (right .1)))
+  pub running-told : Running-told s (running-answer t)
+  running-told = rw (running-is t (r .right)) (refl, names-running r (runner t) (runs t (good r)))
 
   -- the thread query tells of a live thread what the state says
-  pub thread-told : Right t → (th : ℕ) → th ∈ threads s → Thread-told s th (thread-answer t th)
+  pub thread-told : (th : Thread) → th ∈ threads s → Thread-told s th (thread-answer t th)
   unfolding thread-table
-  thread-told right th l = rw (thread-is t right th (a .live th .1 l)) (record {
+  thread-told th l = let here = r .agrees .live th .1 l in rw (thread-is t (r .right) th here) (record {
     accepted = refl;
-    priority = shows t s a k right .priority th l;
-    time = shows t s a k right .time th l;
-    current = subst (λ (p : Precedence). cprec s th p) (sym (current-stored t (right .0) (right .1) th (a .live th .1 l))) (shows t s a k right .current th l);
-    waiting = names-waited right th;
+    priority = shows r .priority th l;
+    time = shows r .time th l;
+    current = subst (cprec s th) (sym (current-stored t (r .right .0) (r .right .1) th here)) (shows r .current th l);
+    waiting = names-waited th;
   })
 
   -- it refuses a thread that isn't live
-  pub dead-told : Right t → (th : ℕ) → th < 32 → ¬ (th ∈ threads s) → thread-answer t th ≡ thread-refused 7
-  dead-told right th low dead = thread-dead t right th low (λ l. dead (a .live th .0 l))
+  pub dead-told : (th : Thread) → th < 32 → ¬ (th ∈ threads s) → thread-answer t th ≡ thread-refused 7
+  dead-told th low dead = thread-dead t (r .right) th low (λ l. dead (r .agrees .live th .0 l))
 
   -- the resource query tells the holder and the number of waiters
-  pub resource-told : Right t → (cs : ℕ) → cs < 16 → Resource-told s cs (resource-answer t cs)
+  pub resource-told : (cs : Resource) → cs < 16 → Resource-told s cs (resource-answer t cs)
   unfolding resource-table
-  resource-told right cs low = rw (resource-is t right cs low) (record {
+  resource-told cs low = rw (resource-is t (r .right) cs low) (record {
     accepted = refl;
-    holder = names-holder right cs;
-    waiters = omega (arith, waiters-are t (right .0) (right .1) cs low, queue-length t (right .0) (right .1) cs low, ap length (shows t s a k right .queues cs));
+    holder = names-holder cs;
+    waiters = omega (arith, waiters-are t (good r) cs low, queue-length t (good r) cs low, ap length (shows r .queues cs));
   })

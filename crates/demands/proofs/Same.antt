@@ -1,6 +1,6 @@
 -- A table that agrees with a state says of it what the paper's definitions say. Assumes nothing.
 use Prim.Native.Nat.{ℕ, _≤_}
-use mathlib.Core.Path.{_≡_, sym, ap, subst, _∙_}
+use mathlib.Core.Path.{_≡_, sym, ap, _∙_}
 use mathlib.Core.Logic.{inl, inr, _↔_}
 use mathlib.Core.List.{[]}
 use native.Mathlib.Omega.{arith}
@@ -11,16 +11,14 @@ use Rattle.protocol.specs.Schedule as paper
 use Rattle.protocol.proofs.Order.{≼-total}
 use Rattle.protocol.proofs.Highest.{max-map}
 use Rattle.protocol.proofs.Graphs.{leads}
-use Rattle.protocol.proofs.Kept.{Kept}
 use Rattle.protocol.proofs.Current.{dependant-live}
 use Rattle.protocol.proofs.Finite.{orderly}
 use Rattle.table.specs.declared.Table.{Table}
 use Rattle.table.specs.Table as table
-use Rattle.table.proofs.Sums.{beyond}
-use Rattle.table.proofs.Rows.{live-low}
-use Rattle.locks.proofs.StaysSound.{Right}
+use Rattle.table.proofs.arrays.Bounds.{beyond}
+use Rattle.table.proofs.sound.Queues.{live-low}
 use Rattle.demands.specs.Told.{Shows, Names-running}
-use Rattle.demands.proofs.Agrees.{Agrees}
+use Rattle.demands.proofs.Agrees.{Reached, ordered, same-queues}
 
 -- own precedences that are the same for a thread and its dependants make the same current precedence
 own-cprec : (q : Queues) (f g : Thread → Precedence) (th : Thread) → f th ≡ g th → ((u : Thread) → u ∈ dependants q th → f u ≡ g u) → (m : Precedence) → cprec q f th m → cprec q g th m
@@ -50,55 +48,52 @@ highest-map R Q M N same value th h = record {
     from : (a : Precedence) → a ∈ images Q N → a ∈ images R M
     from a (u, i, r) = let j = same u .1 i in (u, j, value u j a .1 r)
 
-module _ (t : Table) (s : State) (a : Agrees t s) (k : Kept s) where
+module _ {t : Table} {s : State} (r : Reached t s) where
   -- who depends on a thread is live, so its own precedence agrees
   behind-own : (th u : Thread) → u ∈ paper.dependants s th → table.own t u ≡ prec u s
-  behind-own th u d = a .own u (dependant-live (orderly s k) (leads (paper.wq s) d))
+  behind-own th u d = r .agrees .own u (dependant-live (orderly s (ordered r)) (leads (paper.wq s) d))
 
   -- a live thread has the same current precedence
-  pub same-cprec : (th : ℕ) → th ∈ threads s → (m : Precedence) → table.cprec t th m ↔ paper.cprec s th m
+  same-cprec : (th : Thread) → th ∈ threads s → (m : Precedence) → table.cprec t th m ↔ paper.cprec s th m
   same-cprec th l m = (
-    λ h. own-cprec (paper.wq s) (table.own t) (λ u. prec u s) th (a .own th l) (behind-own th) m (subst (λ (q : Queues). cprec q (table.own t) th m) (a .queues) h),
-    λ h. subst (λ (q : Queues). cprec q (table.own t) th m) (sym (a .queues)) (own-cprec (paper.wq s) (λ u. prec u s) (table.own t) th (sym (a .own th l)) (λ u d. sym (behind-own th u d)) m h),
+    λ h. own-cprec (paper.wq s) (table.own t) (λ u. prec u s) th (r .agrees .own th l) (behind-own th) m (over .0 h),
+    λ h. over .1 (own-cprec (paper.wq s) (λ u. prec u s) (table.own t) th (sym (r .agrees .own th l)) (λ u d. sym (behind-own th u d)) m h),
   )
+    where
+      over : cprec (table.queues t) (table.own t) th m ↔ cprec (paper.wq s) (table.own t) th m
+      over = same-queues r (λ q. cprec q (table.own t) th m)
 
   -- the same threads are ready
-  pub same-ready : (th : ℕ) → (th ∈ table.ready t) ↔ (th ∈ paper.ready s)
-  same-ready th = (
-    λ r. (a .live th .0 (r .0), subst (λ (q : Queues). (cs : Resource) → ¬ waits q th cs) (a .queues) (r .1)),
-    λ r. (a .live th .1 (r .0), subst (λ (q : Queues). (cs : Resource) → ¬ waits q th cs) (sym (a .queues)) (r .1)),
-  )
+  same-ready : (th : Thread) → (th ∈ table.ready t) ↔ (th ∈ paper.ready s)
+  same-ready th = let idle = same-queues r (λ q. (cs : Resource) → ¬ waits q th cs) in ((λ w. (r .agrees .live th .0 (w .0), idle .0 (w .1))), λ w. (r .agrees .live th .1 (w .0), idle .1 (w .1)))
 
   -- the same thread runs
-  pub same-running : (th : ℕ) → (th ∈ table.running t) ↔ (th ∈ paper.running s)
+  pub same-running : (th : Thread) → (th ∈ table.running t) ↔ (th ∈ paper.running s)
   same-running th = (
-    highest-map (table.cprec t) (paper.cprec s) (table.ready t) (paper.ready s) same-ready (λ u r. same-cprec u (a .live u .0 (r .0))) th,
-    highest-map (paper.cprec s) (table.cprec t) (paper.ready s) (table.ready t) (λ u. (same-ready u .1, same-ready u .0)) (λ u r m. let c = same-cprec u (r .0) m in (c .1, c .0)) th,
+    highest-map (table.cprec t) (paper.cprec s) (table.ready t) (paper.ready s) same-ready (λ u w. same-cprec u (r .agrees .live u .0 (w .0))) th,
+    highest-map (paper.cprec s) (table.cprec t) (paper.ready s) (table.ready t) (λ u. (same-ready u .1, same-ready u .0)) (λ u w m. let c = same-cprec u (w .0) m in (c .1, c .0)) th,
   )
 
   -- who is named as running in the table is named as running in the state
-  pub names-running : (r : ℕ) → table.Runner t r → Names-running s r
-  names-running r (inl (low, run)) = inl (low, same-running r .0 run)
-  names-running r (inr (e, nobody)) = inr (e, λ th run. nobody th (same-running th .1 run))
+  pub names-running : (x : ℕ) → table.Runner t x → Names-running s x
+  names-running x (inl (low, run)) = inl (low, same-running x .0 run)
+  names-running x (inr (e, nobody)) = inr (e, λ th run. nobody th (same-running th .1 run))
 
   -- only the sixteen resources have a queue
-  no-queue : Right t → (cs : Resource) → 16 ≤ cs → paper.wq s cs ≡ []
-  no-queue right cs h = sym (ap (λ (q : Queues). q cs) (a .queues)) ∙ none
-    where
-      none : table.queues t cs ≡ []
-      none = rw (beyond (t .length) cs (omega (arith, right .0 .length-size)))
+  no-queue : (cs : Resource) → 16 ≤ cs → table.queues t cs ≡ []
+  no-queue cs h = rw (beyond (t .length) cs (omega (arith, r .right .0 .length-size)))
 
   -- a sound table shows the state
-  pub shows : Right t → Shows t s
-  shows right = record {
-    clock = a .clock;
-    clock-end = omega (arith, a .clock, right .1 .clock);
-    live = a .live;
-    ids = λ th l. live-low t (right .0) th (a .live th .1 l);
-    priority = λ th l. ap (λ (p : Precedence). p .0) (a .own th l);
-    time = λ th l. ap (λ (p : Precedence). p .1) (a .own th l);
-    queues = λ cs. ap (λ (q : Queues). q cs) (a .queues);
-    resources = no-queue right;
-    current = λ th l. same-cprec th l (table.stored t th) .0 (right .1 .current th (a .live th .1 l));
-    dead = λ th n. right .1 .dead-slots th (λ l. n (a .live th .0 l));
+  pub shows : Shows t s
+  shows = record {
+    clock = r .agrees .clock;
+    clock-end = omega (arith, r .agrees .clock, r .right .1 .bare .clock);
+    live = r .agrees .live;
+    ids = λ th l. live-low t (r .right .0) th (r .agrees .live th .1 l);
+    priority = λ th l. ap (λ (p : Precedence). p .0) (r .agrees .own th l);
+    time = λ th l. ap (λ (p : Precedence). p .1) (r .agrees .own th l);
+    queues = λ cs. ap (λ (q : Queues). q cs) (r .agrees .queues);
+    resources = λ cs h. same-queues r (λ q. q cs ≡ []) .0 (no-queue cs h);
+    current = λ th l. same-cprec th l (table.stored t th) .0 (r .right .1 .current th (r .agrees .live th .1 l));
+    dead = λ th n. (r .right .1 .bare .dead-slots th (λ l. n (r .agrees .live th .0 l)), r .right .1 .dead-stored th (λ l. n (r .agrees .live th .0 l)));
   }

@@ -18,9 +18,9 @@ use Rattle.table.specs.declared.Table.{Table}
 use Rattle.table.specs.Table.{at}
 use Rattle.table.proofs.Table as table
 use Rattle.table.proofs.Table.Laws as table-laws
-use Rattle.locks.specs.declared.Record.{Record}
-use Rattle.locks.proofs.Record as four-bytes
-use Rattle.locks.proofs.Record.Laws as four-bytes-laws
+use Rattle.refusals.specs.declared.Record.{Record}
+use Rattle.refusals.proofs.Record as four-bytes
+use Rattle.refusals.proofs.Record.Laws as four-bytes-laws
 use Rattle.locks.proofs.step.step.Kinds as step
 use Rattle.locks.proofs.queries.running_of.Kinds as running-of
 use Rattle.locks.proofs.queries.thread_of.Kinds as thread-of

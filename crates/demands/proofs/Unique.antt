@@ -7,25 +7,30 @@ use mathlib.Core.Logic.{_≢_, inl, inr, ⊎-elim}
 use mathlib.Core.List.{[], _∷_}
 use native.Mathlib.Decide.{ℕ-discrete}
 use native.Mathlib.Omega.{arith}
+use borrow.Author.Tests.{le-ltb}
 use Rattle.protocol.specs.Events.{Create, State}
 use Rattle.protocol.specs.Rules.{step, create as create-step}
 use Rattle.protocol.proofs.Theorems.{some-runs}
 use Rattle.table.specs.declared.Table.{Table}
 use Rattle.table.specs.Table.{empty}
 use Rattle.table.proofs.Table.empty.Reads as empty-table
-use Rattle.table.proofs.Table.sound.Reads as sound
-use Rattle.table.proofs.Reflect.{same-test}
-use Rattle.locks.specs.declared.Record.{Record}
+use Rattle.table.proofs.tests.Reflect.{same-test}
+use Rattle.soundness.proofs.check.sound.Reads as sound
+use Rattle.refusals.specs.declared.Record.{Record}
+use Rattle.refusals.specs.Refusals.{malformed, by-record, refusals, lowest}
+use Rattle.refusals.specs.Applies.{no-kind, ill-formed}
+use Rattle.refusals.proofs.given.Formed.{well-formed}
+use Rattle.refusals.proofs.given.Exactly.{exactly, given-none}
+use Rattle.events.specs.Events.{event-of}
+use Rattle.events.specs.Count.{count}
+use Rattle.events.proofs.accepted.Named.{names-create}
 use Rattle.locks.specs.declared.Answer.{Answer}
 use Rattle.locks.specs.declared.Done.{Done}
 use Rattle.locks.specs.declared.queries.RunningAnswer.{RunningAnswer}
 use Rattle.locks.specs.declared.queries.ThreadAnswer.{ThreadAnswer}
 use Rattle.locks.specs.declared.queries.ResourceAnswer.{ResourceAnswer}
-use Rattle.locks.specs.Refusals.{refusals, lowest}
-use Rattle.locks.specs.Applies.{no-kind}
 use Rattle.locks.specs.Queries.{running-answer, thread-answer, resource-answer}
-use Rattle.locks.specs.Answers.{accepted as answer-accepted, refused as answer-refused, applied, answerOf}
-use Rattle.locks.proofs.Exactly.{exactly, given-none}
+use Rattle.locks.specs.Answers.{accepted as answer-accepted, refused as answer-refused, answerOf}
 use Rattle.locks.proofs.Answered.{refused-is, let-through}
 use Rattle.demands.specs.Calls.{Any-table, Any-record, Calls, Step-says, Running-says, Thread-says, Resource-says, As-stated}
 use Rattle.demands.specs.Runs.{table-after, number-of, Writes, create, History, none-yet, accepted, Well-formed}
@@ -33,7 +38,7 @@ use Rattle.demands.specs.Told.{Names-running}
 use Rattle.demands.proofs.InMemory.{right-any}
 use Rattle.demands.proofs.Numbers.{stated-number}
 use Rattle.demands.proofs.Reached.{start-reached}
-use Rattle.demands.proofs.Demand2.{After, Demand-2, well-any, demand-2}
+use Rattle.demands.proofs.Demand2.{After, Demand-2, demand-2}
 
 -- For one input, no two results satisfy the statement of
 
@@ -57,7 +62,7 @@ thread-one t th a a′ p q = one a a′ (p tt) (q tt)
 pub resource-one : (t : Table) (cs : ℕ) (a a′ : ResourceAnswer) → Resource-says t cs a → Resource-says t cs a′ → a ≡ a′
 resource-one t cs a a′ p q = one a a′ (p tt) (q tt)
 
--- the empty table, and the test whether a table is sound, of which the contracts (table/src/lib.rt, table/src/check.rt) say
+-- the empty table, and the test whether a table is sound, of which the contracts (table/src/lib.rt, soundness/src/check.rt) say
 abbrev pub Empty-says : Table → Type 0
 Empty-says t = empty-table.Asked tt tt → empty-table.Learnt tt tt t tt
 
@@ -70,7 +75,7 @@ empty-one t t′ p q = one t t′ (p tt) (q tt)
 pub sound-one : (t : Table) (b b′ : Bool) → Sound-says t b → Sound-says t b′ → b ≡ b′
 sound-one t b b′ p q = same-test (p tt) (q tt)
 
--- the calls that are lent the table t and leave u behind; `demands` does not stand on crate `kernel`, so what its contracts say (kernel/src/lib.rt) is written out here
+-- the calls that are lent the table t and leave u behind; `demands` does not stand on crate `locktable`, so what its contracts say (locktable/src/lib.rt) is written out here
 pub lent-step-one : (t : Table) (e : Record) (r r′ : Answer) (u u′ : Table) → (r ≡ answerOf t e .answer) × (u ≡ answerOf t e .table) → (r′ ≡ answerOf t e .answer) × (u′ ≡ answerOf t e .table) → (r ≡ r′) × (u ≡ u′)
 lent-step-one t e = both
 
@@ -123,11 +128,12 @@ creates : ℕ → Record
 creates x = record { kind = 1; thread = x; argument = 0; zero = 0 }
 
 well : (x : ℕ) → x < 32 → Well-formed (creates x)
-unfolding creates
-well x low = record { kind-from = omega arith; kind-to = omega arith; thread = low; resource = ⊎-elim (λ k. absurd (omega arith)) (λ k. absurd (omega arith)); priority = omega arith; exit-plain = λ k. refl; fourth = refl }
+unfolding creates lowest by-record malformed
+well x low = well-formed (creates x) .0 (rw (le-ltb 31 x (omega arith)))
 
 any : (x : ℕ) → x < 32 → Any-record (creates x)
-any x low = well-any (well x low)
+unfolding creates
+any x low = record { kind = omega arith; thread = omega arith; argument = omega arith; zero = omega arith }
 
 -- its event is a Create
 writes : (s : State) (x : ℕ) → Writes s (creates x) (Create x 0)
@@ -142,7 +148,7 @@ module _ (c : Calls) (d : Demand-2 c) where
   module _ (x : ℕ) (low : x < 32) where
     -- the first Create is accepted
     first-accepted : number-of c [] (creates x) ≡ 0
-    first-accepted = at-first .admits (creates x) (well x low) (omega arith) .1 (Create x 0) (writes [] x) .1 (create-step (λ l. l))
+    first-accepted = at-first .admits (creates x) (any x low) (well x low) (omega arith) .1 (Create x 0) (writes [] x) .1 (create-step (λ l. l))
 
     first-history : History c (creates x ∷ []) (Create x 0 ∷ [])
     first-history = accepted none-yet first-accepted (writes [] x)
@@ -185,7 +191,7 @@ touches-nothing c wrong d = ⊎-elim (λ w. w .1 .among .0) (λ w. absurd (omega
 
 -- at the second event, another Create of the same thread
 pub then-answers-0 : (c : Calls) → Then-answers-0 c → ¬ Demand-2 c
-then-answers-0 c wrong d = twice (now .admits (creates 0) (well 0 (omega arith)) (omega arith) .1 (Create 0 0) (writes (Create 0 0 ∷ []) 0) .0 (wrong (table-after c (creates 0 ∷ [])) (creates 0) (now .memory) (any 0 (omega arith)) not-empty))
+then-answers-0 c wrong d = twice (now .admits (creates 0) (any 0 (omega arith)) (well 0 (omega arith)) (omega arith) .1 (Create 0 0) (writes (Create 0 0 ∷ []) 0) .0 (wrong (table-after c (creates 0 ∷ [])) (creates 0) (now .memory) (any 0 (omega arith)) not-empty))
   where
     now : After c (creates 0 ∷ []) (Create 0 0 ∷ [])
     now = after-first c d 0 (omega arith)
@@ -211,16 +217,16 @@ of-no-kind = record { kind = omega arith; thread = omega arith; argument = omega
 module _ (c : Calls) (is : As-stated c) where
   -- an accepted Create counts 1
   create-counts : c .step empty (creates 0) .answer .count ≡ 1
-  unfolding creates applied answer-accepted
+  unfolding creates event-of answer-accepted count
   create-counts = let a = any 0 (omega arith) in
-      ap (λ (x : Done). x .answer .count) (is .step empty (creates 0) memory a tt ∙ let-through empty (creates 0) (sym (stated-number c is empty (creates 0) memory a) ∙ first-accepted c (demand-2 c is) 0 (omega arith)))
+      ap (λ (x : Done). x .answer .count) (is .step empty (creates 0) memory a tt ∙ let-through empty (creates 0) (sym (stated-number c is empty (creates 0) memory a) ∙ first-accepted c (demand-2 c is) 0 (omega arith)) (names-create (creates 0) _ refl))
 
   -- a refusal counts 0
   refusal-counts : c .step empty no-kind-at-all .answer .count ≡ 0
   unfolding no-kind-at-all answer-refused
   refusal-counts = ap (λ (x : Done). x .answer .count)
       (is .step empty no-kind-at-all memory of-no-kind tt ∙ refused-is empty no-kind-at-all
-      (λ z. given-none empty no-kind-at-all (lowest (refusals empty no-kind-at-all)) (exactly empty no-kind-at-all (start-reached .right .0)) z 2 (no-kind (λ w. absurd (omega (arith, w .0))))))
+      (λ z. given-none empty no-kind-at-all (lowest (refusals empty no-kind-at-all)) (exactly empty no-kind-at-all (start-reached .right .0)) z 2 (ill-formed (no-kind (λ w. absurd (omega (arith, w .0)))))))
 
 -- at the first Create, or at the first refusal
 pub counts-always : (c : Calls) (n : ℕ) → Counts-always c n → ¬ As-stated c

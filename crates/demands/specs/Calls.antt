@@ -5,7 +5,7 @@ use mathlib.Core.List.{List}
 use lib.ListN.{length}
 use Rattle.table.specs.declared.Table.{Table}
 use Rattle.table.specs.Table.{at}
-use Rattle.locks.specs.declared.Record.{Record}
+use Rattle.refusals.specs.declared.Record.{Record}
 use Rattle.locks.specs.declared.Done.{Done}
 use Rattle.locks.specs.declared.queries.RunningAnswer.{RunningAnswer}
 use Rattle.locks.specs.declared.queries.ThreadAnswer.{ThreadAnswer}

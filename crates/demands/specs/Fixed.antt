@@ -1,4 +1,4 @@
--- The numbers with which the queries answer, fixed beforehand; those of the step are `Given` in locks/specs/Applies. Assumes nothing.
+-- The numbers with which the queries answer, fixed beforehand; those of the step are `Given` in refusals/specs/Applies. Assumes nothing.
 use Prim.Native.Nat.{ℕ, _<_}
 use Rattle.protocol.specs.Sets.{_∈_}
 use Rattle.protocol.specs.Events.{Thread, Resource}

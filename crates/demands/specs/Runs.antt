@@ -1,14 +1,15 @@
 -- Records one after another from the empty table on, and the accepted ones as the paper writes events. Assumes nothing.
-use Prim.Native.Nat.{ℕ, _≤_, _<_}
+use Prim.Native.Nat.{ℕ}
 use mathlib.Core.Path.{_≡_}
-use mathlib.Core.Logic.{_≢_, _⊎_}
+use mathlib.Core.Logic.{_≢_}
 use mathlib.Core.Option.{Option, none, some}
 use mathlib.Core.List.{List, [], _∷_}
 use Rattle.protocol.specs.Events.{Thread, Resource, Event, Create, Exit, Set, P, «V», State, prec, _≼_}
 use Rattle.protocol.specs.Schedule.{waits}
 use Rattle.table.specs.declared.Table.{Table}
 use Rattle.table.specs.Table.{empty}
-use Rattle.locks.specs.declared.Record.{Record}
+use Rattle.refusals.specs.declared.Record.{Record}
+use Rattle.refusals.specs.Applies.{Ill-formed}
 use Rattle.demands.specs.Calls.{Any-record, Calls}
 
 -- Records stand in a list as the paper's events do, the newest first.
@@ -46,12 +47,6 @@ pub data History (c : Calls) : List Record → State → Type 0 where
   accepted : {es : List Record} {s : State} {e : Record} {ev : Event} → History c es s → number-of c es e ≡ 0 → Writes s e ev → History c (e ∷ es) (ev ∷ s)
   refused : {es : List Record} {s : State} {e : Record} → History c es s → number-of c es e ≢ 0 → History c (e ∷ es) s
 
--- a well-formed record: kind 1 to 5, thread, argument (priority or resource; 0 for Exit), and 0
-pub record Well-formed (e : Record) : Type 0 where
-  pub kind-from : 1 ≤ e .kind
-  pub kind-to : e .kind ≤ 5
-  pub thread : e .thread < 32
-  pub resource : (e .kind ≡ 4) ⊎ (e .kind ≡ 5) → e .argument < 16
-  pub priority : e .argument ≤ 255
-  pub exit-plain : e .kind ≡ 2 → e .argument ≡ 0
-  pub fourth : e .zero ≡ 0
+-- a well-formed record: one that refusals 2, 3 and 4 don't catch
+abbrev pub Well-formed : Record → Type 0
+Well-formed e = (n : ℕ) → ¬ Ill-formed e n

@@ -5,7 +5,7 @@ use mathlib.Core.List.{List, [], _∷_, _++_}
 use lib.Dec.{ltb}
 use Rattle.table.specs.declared.Table.{Table}
 use Rattle.table.specs.Table.{empty}
-use Rattle.locks.specs.declared.Record.{Record}
+use Rattle.refusals.specs.declared.Record.{Record}
 use Rattle.locks.specs.declared.Done.{Done}
 use Rattle.locks.specs.Answers.{answerOf}
 use Rattle.listing.specs.Text.{line, tail-line, header}

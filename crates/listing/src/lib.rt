@@ -1,10 +1,10 @@
 // The lines of the bench listing as bytes. See specs/ for what each line says.
-ghost use mathlib.Core.Path.{_≡_};
 ghost use mathlib.Core.List.{[], _∷_, _++_};
 ghost use Prim.Native.Nat.{_+_, _≤_};
 ghost use lib.ListN.{length};
 ghost use Rattle.listing.specs.Text.{decimal, dash-or, space, header, line, tail-line};
 ghost use Rattle.listing.specs.Writing.{Says, Blank, Writes};
+use table::Table;
 
 // A text of at most 48 bytes: the first `len` of `bytes`. The longest line has 33, so columns can still be added. What writes
 // takes the text and gives a longer one back.
@@ -15,9 +15,6 @@ pub struct Text {
 
 impl Text {
     pub const ROOM: usize = 48;
-
-    // What stands for no thread.
-    const NOBODY: u8 = 32;
 
     fn blank() -> Text
         ensures { λ r. ⌜ Blank r ⌝ }
@@ -75,7 +72,7 @@ impl Text {
         requires { ⌜ self .len + 4 ≤ 48 ⌝ }
         ensures { λ r. ⌜ Writes self (space ++ dash-or x) r × (r .len ≤ self .len + 4) ⌝ }
     {
-        if x == Text::NOBODY {
+        if x == Table::NOBODY {
             return self.byte(b' ').byte(b'-');
         }
         self.column(x)

@@ -2,16 +2,20 @@
 use Prim.Native.Nat.{ℕ}
 use mathlib.Core.Path.{_≡_, _∙_}
 use mathlib.Core.Bool.{false}
+use mathlib.Core.Option.{some}
 use mathlib.Core.Logic.{_≢_}
 use borrow.Author.Tests.{ne-eqb}
+use Rattle.protocol.specs.Events.{Event}
 use Rattle.table.specs.declared.Table.{Table}
 use Rattle.table.specs.Sound.{Sound}
-use Rattle.table.specs.Checked.{Shape}
+use Rattle.table.specs.code.Shape.{Shape}
 use Rattle.table.specs.Compute.{is-sound, runner}
-use Rattle.locks.specs.declared.Record.{Record}
-use Rattle.locks.specs.Refusals.{unsound, refusals, lowest}
-use Rattle.locks.specs.Answers.{refused, applied, answerOf}
-use Rattle.locks.proofs.Exactly.{exactly, given-1}
+use Rattle.refusals.specs.declared.Record.{Record}
+use Rattle.refusals.specs.Refusals.{unsound, refusals, lowest}
+use Rattle.refusals.proofs.given.Exactly.{exactly, given-1}
+use Rattle.events.specs.Events.{settled, changed, event-of}
+use Rattle.events.specs.Count.{count}
+use Rattle.locks.specs.Answers.{accepted, refused, carried-out, answerOf}
 
 module _ (t : Table) (e : Record) where
   pub not-sound : is-sound t ≡ false → answerOf t e ≡ record { answer = record { number = 1; running = 32; count = 0 }; table = t }
@@ -32,6 +36,7 @@ module _ (t : Table) (e : Record) where
   unfolding refused
   turned-down n r s sound q z u = refused-is (λ k. z (q ∙ k)) ∙ rw (q, u, refused-runs s sound)
 
-  pub let-through : lowest (refusals t e) ≡ 0 → answerOf t e ≡ applied t e
-  unfolding answerOf
-  let-through z = rw z
+  -- an accepted one: its event
+  pub let-through : lowest (refusals t e) ≡ 0 → {ev : Event} → event-of t e ≡ some ev → answerOf t e ≡ accepted (settled (changed t ev)) (count t ev)
+  unfolding answerOf carried-out
+  let-through z named = rw (z, named)

@@ -11,7 +11,7 @@ use Rattle.table.specs.Compute.{is-live, runner, current, waits-for, holder}
 use Rattle.locks.specs.declared.queries.RunningAnswer.{RunningAnswer}
 use Rattle.locks.specs.declared.queries.ThreadAnswer.{ThreadAnswer}
 use Rattle.locks.specs.declared.queries.ResourceAnswer.{ResourceAnswer}
-use Rattle.locks.specs.Refusals.{Refusal, unsound, lowest}
+use Rattle.refusals.specs.Refusals.{Refusal, unsound, lowest}
 
 -- Running: refused with 1,
 unfoldable pub running-refusals : Table → List Refusal

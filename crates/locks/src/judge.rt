@@ -1,14 +1,14 @@
 // The answer before any event is done: whether the record is refused.
 ghost use mathlib.Core.Path.{_≡_};
-ghost use mathlib.Core.Bool.{Bool, true};
+ghost use mathlib.Core.Bool.{true};
 ghost use mathlib.Core.List.{List};
 ghost use Prim.Native.Nat.{ℕ};
 ghost use Rattle.table.specs.declared.Table.{Table};
-ghost use Rattle.table.specs.Checked.{Checked-right};
-ghost use Rattle.locks.specs.Refusing.{Judged};
+ghost use Rattle.table.specs.code.Tracks.{Known};
+ghost use Rattle.locks.specs.code.Judged.{Judged};
 use crate::Answer;
-use crate::Record;
-use crate::refusal::refusal;
+use refusals::Record;
+use refusals::refusal::refusal;
 use table::Table;
 use table::running::running;
 
@@ -27,16 +27,14 @@ pub fn reply(number: u8, running: u8, count: u8) -> Answer
 pub fn judge<'a>(
     clock: u16,
     live: &'a [u8; Table::THREADS],
-    queue: &'a [u8; Table::PLACES],
-    length: &'a [u8; Table::RESOURCES],
     waits: &'a [u8; Table::THREADS],
+    holders: &'a [u8; Table::RESOURCES],
     current: &'a [u32; Table::THREADS],
     e: Record,
 ) -> Answer
-    ensures { λ a. ⌜ ((t : Table) (sound : Bool) (owns : List ℕ) → Checked-right t sound (now (waits .entry)) owns (now (current .entry)) → sound ≡ true →
-        t .clock ≡ clock → t .live ≡ now (live .entry) → t .queue ≡ now (queue .entry) → t .length ≡ now (length .entry) → Judged t e sound a) ⌝ }
+    ensures { λ a. ⌜ ((t : Table) (owns : List ℕ) → Known t (now (waits .entry)) (now (holders .entry)) owns (now (current .entry)) → t .clock ≡ clock → t .live ≡ now (live .entry) → Judged t e true a) ⌝ }
 {
     let runs = running(waits, current);
-    let number = refusal(clock, live, queue, length, waits, runs, e);
+    let number = refusal(clock, live, waits, holders, runs, e);
     reply(number, runs, 0)
 }

@@ -1,39 +1,10 @@
 // The calls: the by-value step and the three queries. See specs/ for what each answers.
-mod climb;
-mod finish;
 mod judge;
-mod numbers;
 pub mod queries;
-mod refusal;
-mod release;
-mod request;
-mod requeue;
-mod slots;
 pub mod step;
 
+pub use refusals::Record;
 use table::Table;
-
-// An event record: four bytes.
-#[repr(C)]
-pub struct Record {
-    pub kind: u8,
-    pub thread: u8,
-    pub argument: u8,
-    pub zero: u8,
-}
-
-// The kinds of event.
-impl Record {
-    pub const CREATE: u8 = 1;
-
-    pub const EXIT: u8 = 2;
-
-    pub const SET: u8 = 3;
-
-    pub const P: u8 = 4;
-
-    pub const V: u8 = 5;
-}
 
 // The answer to an event: the number, the running thread of the table afterwards, and the count of re-evaluations.
 #[repr(C)]
@@ -43,7 +14,7 @@ pub struct Answer {
     pub count: u8,
 }
 
-// The table afterwards, and the answer. In this order the compiler sees that the table in it and the step's own can be one.
+// The table afterwards, and the answer, in this order (docs/DECISIONS.md, "What a call costs").
 pub struct Done {
     pub table: Table,
     pub answer: Answer,

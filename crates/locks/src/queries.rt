@@ -2,9 +2,10 @@
 ghost use mathlib.Core.Path.{_≡_};
 ghost use Prim.Native.Nat.{_-_};
 ghost use Rattle.locks.specs.Queries.{running-answer, thread-answer, thread-refused, resource-answer, resource-refused};
+use soundness::check::check;
+use soundness::check::look;
 use table::Table;
-use table::check::check;
-use table::queues::holder;
+use table::queues::wide;
 use table::running::running;
 
 // The running thread; 32 if there is none, and on a refusal.
@@ -17,16 +18,7 @@ pub struct RunningAnswer {
 pub fn running_of(t: Table) -> RunningAnswer
     ensures { λ r. ⌜ r ≡ running-answer t ⌝ }
 {
-    let c = check(
-        t.clock,
-        &t.live,
-        &t.priority,
-        &t.time,
-        &t.current_priority,
-        &t.current_time,
-        &t.queue,
-        &t.length,
-    );
+    let c = look(t);
     if !c.sound {
         return RunningAnswer {
             number: 1,
@@ -63,7 +55,8 @@ fn thread_refused(number: u8) -> ThreadAnswer
     }
 }
 
-// What is stored as current precedence is the defined one, since the table is sound.
+// What is stored as current precedence is the defined one, since the table is sound. The table is read after the test, so its arrays are
+// lent to the test: handed on whole, it would be copied once more (docs/DECISIONS.md, "What a call costs").
 pub fn thread_of(t: Table, thread: u8) -> ThreadAnswer
     ensures { λ r. ⌜ r ≡ thread-answer t thread ⌝ }
 {
@@ -80,7 +73,7 @@ pub fn thread_of(t: Table, thread: u8) -> ThreadAnswer
     if !c.sound {
         return thread_refused(1);
     }
-    let i = thread as usize;
+    let i = wide(thread);
     if Table::THREADS <= i {
         return thread_refused(3);
     }
@@ -122,6 +115,7 @@ fn waiting(n: u8) -> u8
     if n == 0 { 0 } else { n - 1 }
 }
 
+// The arrays are lent to the test here too.
 pub fn resource_of(t: Table, resource: u8) -> ResourceAnswer
     ensures { λ r. ⌜ r ≡ resource-answer t resource ⌝ }
 {
@@ -138,13 +132,13 @@ pub fn resource_of(t: Table, resource: u8) -> ResourceAnswer
     if !c.sound {
         return resource_refused(1);
     }
-    let r = resource as usize;
+    let r = wide(resource);
     if Table::RESOURCES <= r {
         return resource_refused(4);
     }
     ResourceAnswer {
         number: 0,
-        holder: holder(&t.queue, &t.length, r),
+        holder: c.holders[r],
         waiters: waiting(t.length[r]),
     }
 }

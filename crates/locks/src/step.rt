@@ -2,19 +2,18 @@
 ghost use mathlib.Core.Path.{_≡_};
 ghost use Rattle.locks.specs.Answers.{answerOf};
 use crate::Done;
-use crate::Record;
-use crate::finish::outcome;
 use crate::judge::judge;
 use crate::judge::reply;
-use crate::requeue::requeue;
-use crate::slots::slot_of;
+use events::finish::carry_out;
+use events::heir::follower;
+use refusals::Record;
+use soundness::check::check;
+use table::Slot;
 use table::Table;
-use table::check::check;
 use table::queues::wide;
 
-// The table given is changed where it stands, and the result is made once, at the end: it is copied into the call and out of it, and
-// between no two functions. The queues' lengths alone are changed in an array of their own: so the table has few enough uses for the
-// compiler to see that the step's table and the one in its result can be the same (docs/DECISIONS.md, "What a call costs").
+// The table given is changed where it stands, and the result is made once, at the end. Of its arrays only one at a time can be lent to be
+// changed, so the queues' lengths are changed in a copy, made right after the test (docs/DECISIONS.md, "What a call costs").
 pub fn step(mut t: Table, e: Record) -> Done
     ensures { λ d. ⌜ d ≡ answerOf t e ⌝ }
 {
@@ -28,29 +27,39 @@ pub fn step(mut t: Table, e: Record) -> Done
         &t.queue,
         &t.length,
     );
-    let mut sizes = t.length;
+    let mut lengths = t.length;
     let mut answer = reply(1, Table::NOBODY, 0);
     if c.sound {
-        answer = judge(t.clock, &t.live, &t.queue, &sizes, &c.waits, &c.current, e);
+        answer = judge(t.clock, &t.live, &c.waits, &c.holders, &c.current, e);
     }
     if answer.number == 0 {
-        if e.kind < Record::P {
-            let s = slot_of(e, t.clock);
-            let i = wide(e.thread);
-            t.live[i] = s.live;
-            t.priority[i] = s.priority;
-            t.time[i] = s.time;
-        } else {
-            requeue(&mut t.queue, &mut sizes, &c.own, e);
-        }
-        let o = outcome(&t.queue, &sizes, &c.own, c.waits, c.current, t.clock, e);
+        let i = wide(e.thread);
+        let before = Slot::of(t.live[i], t.priority[i], t.time[i]);
+        let next = follower(&t.queue, &t.length, &c.own, e);
+        let clock = t.clock;
+        let o = carry_out(
+            &mut t.queue,
+            &mut lengths,
+            &c.own,
+            c.waits,
+            c.holders,
+            c.current,
+            before,
+            clock,
+            e,
+            next,
+        );
+        let slot = o.slot;
         let priority = o.priority;
         let time = o.time;
-        t.clock += 1;
+        t.clock = clock + 1;
+        t.live[i] = slot.live;
+        t.priority[i] = slot.priority;
+        t.time[i] = slot.time;
         t.current_priority = priority;
         t.current_time = time;
-        t.length = sizes;
-        answer = o.answer;
+        t.length = lengths;
+        answer = reply(0, o.running, o.count);
     }
     Done { table: t, answer }
 }

@@ -1,21 +1,5 @@
 -- Laws of the table, from the bottom up.
-pub mod Answers
-pub mod Maxima
-pub mod Sums
-pub mod Filled
-pub mod Survey
-pub mod Steps
-pub mod Chain
-pub mod Marks
-pub mod Lead
-pub mod Places
-pub mod Rows
-pub mod Worth
-pub mod Climbs
-pub mod Soundness
-pub mod Runs
-pub mod Verdict
-pub mod Empty
-pub mod Reflect
-pub mod Computed
-pub mod Decided
+pub mod arrays
+pub mod tests
+pub mod sound
+pub mod values

@@ -1,8 +1,7 @@
 -- What a reader has to believe of the table.
 pub mod Table
 pub mod Sound
--- What the parts of the test decide.
-pub mod Parts
-pub mod Walks
-pub mod Checked
+-- The same definitions as tests and values that compute.
 pub mod Compute
+-- What only the code and its proofs speak of.
+pub mod code

@@ -6,15 +6,7 @@ use Rattle.protocol.specs.Events.{Thread, Resource}
 use Rattle.protocol.specs.Graph.{Node}
 use Rattle.protocol.specs.Ways.{Way}
 use Rattle.table.specs.declared.Table.{Table}
-use Rattle.table.specs.Table.{at, live, stored, queues, waits, cprec}
-
--- a slot that isn't live has zero everywhere
-pub record Zero-slot (t : Table) (th : Thread) : Type 0 where
-  pub live-zero : at (t .live) th ≡ 0
-  pub priority-zero : at (t .priority) th ≡ 0
-  pub time-zero : at (t .time) th ≡ 0
-  pub current-priority-zero : at (t .«current_priority») th ≡ 0
-  pub current-time-zero : at (t .«current_time») th ≡ 0
+use Rattle.table.specs.Table.{at, slot, dead-slot, live, stored, queues, waits, cprec}
 
 -- live threads have set times below the clock, all different
 pub record Times-right (t : Table) : Type 0 where
@@ -27,13 +19,14 @@ pub record Queues-right (t : Table) : Type 0 where
   pub live-entries : (cs : Resource) (th : Thread) → th ∈ set (queues t cs) → th ∈ live t
   pub differ : (cs : Resource) → distinct (queues t cs)
 
-pub record Sound (t : Table) : Type 0 where
+-- the rules, in their order, but for what they say of the stored current precedences
+pub record Bare (t : Table) : Type 0 where
   -- the clock is in range
   pub clock : t .clock ≤ 65535
   -- priorities are at most 255
   pub priorities : (th : Thread) → at (t .priority) th ≤ 255
   -- dead slots are zero
-  pub dead-slots : (th : Thread) → ¬ (th ∈ live t) → Zero-slot t th
+  pub dead-slots : (th : Thread) → ¬ (th ∈ live t) → slot t th ≡ dead-slot
   -- queue places beyond a length are zero
   pub spare-places : (cs : Resource) (i : ℕ) → cs < 16 → at (t .length) cs ≤ i → i < 32 → at (t .queue) (cs * 32 + i) ≡ 0
   -- live threads have set times below the clock, all different
@@ -44,5 +37,15 @@ pub record Sound (t : Table) : Type 0 where
   pub one-wait : (th : Thread) (cs₁ cs₂ : Resource) → waits t th cs₁ → waits t th cs₂ → cs₁ ≡ cs₂
   -- going from a thread to the resource it waits for, from a resource to its holder, and so on, ends from every start
   pub ways-end : (a : Node) → (k : ℕ) × Way (queues t) a k
-  -- each stored current precedence is the defined one; for threads that aren't live nothing is claimed but the zeros above
+
+-- a table is sound when all of these hold, and of the stored current precedences:
+pub record Sound (t : Table) : Type 0 where
+  pub bare : Bare t
+  -- in dead slots they are zero too
+  pub dead-stored : (th : Thread) → ¬ (th ∈ live t) → stored t th ≡ (0, 0)
+  -- each is the defined one; for threads that aren't live nothing is claimed but the zeros above
   pub current : (th : Thread) → th ∈ live t → cprec t th (stored t th)
+
+-- a slot that isn't live has zero everywhere
+abbrev pub Zero-slot : Table → Thread → Type 0
+Zero-slot t th = (slot t th ≡ dead-slot) × (stored t th ≡ (0, 0))

@@ -5,9 +5,10 @@ use mathlib.Core.Logic.{_⊎_}
 use mathlib.Core.List.{List}
 use lib.ListN.{getD, take, drop, replicate}
 use Rattle.protocol.specs.Sets.{SetOf, _∈_, Highest}
-use Rattle.protocol.specs.Events.{Thread, Resource, Precedence, _≼_}
+use Rattle.protocol.specs.Events.{Thread, Priority, Resource, Precedence, _≼_}
 use Rattle.protocol.specs.Graph.{Queues, holds as holds-in, waits as waits-in, dependants as dependants-in, cprec as cprec-in}
 use Rattle.table.specs.declared.Table.{Table}
+use Rattle.table.specs.declared.Slot.{Slot}
 
 -- the number that stands at a place of an array
 abbrev pub at : List ℕ → ℕ → ℕ
@@ -25,6 +26,22 @@ empty = record {
   queue = replicate 512 0;
   length = replicate 16 0;
 }
+
+-- what the table has of one thread, but for its current precedence
+abbrev pub slot : Table → Thread → Slot
+slot t th = record { live = at (t .live) th; priority = at (t .priority) th; time = at (t .time) th }
+
+-- the slot of a thread that isn't live: zero everywhere
+abbrev pub dead-slot : Slot
+dead-slot = record { live = 0; priority = 0; time = 0 }
+
+-- the slot of a thread that is created: live, with this priority, set at this time
+abbrev pub fresh-slot : Priority → ℕ → Slot
+fresh-slot priority time = record { live = 1; priority = priority; time = time }
+
+-- the slot of a thread that is set: a new own priority, set at this time; the rest stays
+abbrev pub set-slot : Slot → Priority → ℕ → Slot
+set-slot s priority time = record { live = s .live; priority = priority; time = time }
 
 -- live or not
 abbrev pub live : Table → SetOf Thread

@@ -1,14 +1,10 @@
-// The lock table. See specs/ for what each field means and when a table is sound.
-pub mod check;
-pub mod law;
+// The lock table, and reading it. See specs/ for what each field means and when a table is sound.
 pub mod numbers;
 pub mod queues;
 pub mod running;
-pub mod slots;
-pub mod ways;
 
 ghost use mathlib.Core.Path.{_≡_};
-ghost use Rattle.table.specs.Table.{empty};
+ghost use Rattle.table.specs.Table.{empty, fresh-slot, dead-slot, set-slot};
 
 // One array a property: an array of numbers is lent without a copy, and loops over it vectorise. `live` is 0 or 1, and any
 // other number makes the table unsound; that the clock is at most 65,535 and a priority at most 255 holds by the types.
@@ -52,6 +48,59 @@ impl Table {
             current_time: [0; Table::THREADS],
             queue: [0; 512],
             length: [0; Table::RESOURCES],
+        }
+    }
+}
+
+// What the table has of one thread, but for its current precedence. A slot is made here and nowhere else.
+pub struct Slot {
+    pub live: u8,
+    pub priority: u8,
+    pub time: u16,
+}
+
+impl Slot {
+    // The slot of these numbers, as the table has them.
+    pub fn of(live: u8, priority: u8, time: u16) -> Slot
+        ensures { λ s. ⌜ s ≡ record { live = live; priority = priority; time = time } ⌝ }
+    {
+        Slot {
+            live,
+            priority,
+            time,
+        }
+    }
+
+    // Live, with this priority, set at this time.
+    pub fn fresh(priority: u8, time: u16) -> Slot
+        ensures { λ s. ⌜ s ≡ fresh-slot priority time ⌝ }
+    {
+        Slot {
+            live: 1,
+            priority,
+            time,
+        }
+    }
+
+    // Zero everywhere.
+    pub fn dead() -> Slot
+        ensures { λ s. ⌜ s ≡ dead-slot ⌝ }
+    {
+        Slot {
+            live: 0,
+            priority: 0,
+            time: 0,
+        }
+    }
+
+    // A new own priority, set at this time; the rest stays.
+    pub fn anew(self, priority: u8, time: u16) -> Slot
+        ensures { λ s. ⌜ s ≡ set-slot self priority time ⌝ }
+    {
+        Slot {
+            live: self.live,
+            priority,
+            time,
         }
     }
 }

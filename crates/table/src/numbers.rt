@@ -3,7 +3,7 @@ ghost use mathlib.Core.Path.{_≡_};
 ghost use Prim.Native.Nat.{ℕ, _<_};
 ghost use Rattle.protocol.specs.Rank.{rank};
 ghost use Rattle.table.specs.Table.{at};
-ghost use Rattle.table.specs.Parts.{slot-number};
+ghost use Rattle.table.specs.code.Places.{slot-number};
 use crate::Table;
 
 pub fn number(priority: u8, time: u16) -> u32
@@ -34,4 +34,16 @@ pub fn numbers<'a>(
         i += 1;
     }
     all
+}
+
+// The number of thread x; 0 if there is no such thread. A slice tells the proof its length, an array behind a reference doesn't.
+pub fn value(all: &[u32; Table::THREADS], x: u8) -> u32
+    ensures { λ v. ⌜ v ≡ at (now (all .entry)) x ⌝ }
+{
+    let numbers: &[u32] = all;
+    let i = x as usize;
+    if numbers.len() <= i {
+        return 0;
+    }
+    numbers[i]
 }

@@ -1,6 +1,9 @@
 -- `locks::judge::judge` meets its contract. Assumes nothing.
+use mathlib.Core.Path.{_∙_}
 use borrow.Author.Needs.{needs}
-use Rattle.locks.proofs.Stepped.{lent, runs, judged-sound}
+use Rattle.table.proofs.values.Known.{known-good}
+use Rattle.table.proofs.values.Runs.{tracked-runner}
+use Rattle.locks.proofs.Stepped.{judged-sound}
 use Rattle.locks.proofs.judge.judge.Statement.{statement}
 use Rattle.locks.proofs.judge.judge.Tie as tie
 
@@ -14,11 +17,10 @@ reply-requires : tie.Need-reply-requires
 reply-requires c κs = search needs
 
 returns : tie.Need-returns
-returns c t b owns k s clock live queue length =
+returns c t owns k clock live =
     let e = c .before .before .before .args .e in
-    let a = c .reply .result in
-    let runs-is = runs t e k a s (c .before .before .running .ensures) in
-    judged-sound t e k a s (c .before .refusal .ensures t clock live (lent t e k a s queue length) runs-is) runs-is (c .reply .ensures)
+    let runs = c .before .before .running .ensures ∙ tracked-runner t (known-good t k) (k .tracks) in
+    judged-sound t e (c .reply .result) k (c .before .refusal .ensures t owns _ k clock live runs) runs (c .reply .ensures)
 
 pub judge-spec : {M : Type 1} → statement M
 judge-spec = tie.close (tie.spec running-requires refusal-requires reply-requires returns)

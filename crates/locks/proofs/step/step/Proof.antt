@@ -1,88 +1,91 @@
 -- `locks::step::step` meets its contract. Assumes nothing.
+use Prim.Native.Nat.{_<_}
 use mathlib.Core.Path.{_≡_, refl, sym, subst, _∙_}
 use mathlib.Core.Bool.{Bool, true}
 use mathlib.Core.Logic.{⊎-elim}
 use native.Mathlib.Omega.{arith}
 use borrow.Author.Needs.{needs}
-use Rattle.table.specs.declared.Table.{Table}
-use Rattle.table.specs.Checked.{Checked-right}
-use Rattle.locks.specs.Refusals.{refusals, lowest}
-use Rattle.locks.specs.Refusing.{Judged}
-use Rattle.locks.specs.Answers.{answerOf}
-use Rattle.locks.specs.Changed.{with-current}
-use Rattle.locks.proofs.Admitted.{Admitted}
-use Rattle.locks.proofs.Stepped.{judged-unsound, At-work, admits, slot-written, requeues, queue-written, clock-low, worked}
+use Rattle.table.specs.Table.{at, queues}
+use Rattle.table.specs.code.Shape.{Shape}
+use Rattle.refusals.specs.Refusals.{refusals, lowest}
+use Rattle.soundness.specs.Checked.{Checked-right}
+use Rattle.events.specs.Events.{heir}
+use Rattle.events.specs.code.Rows.{next-at}
+use Rattle.events.specs.code.Work.{Accepted}
+use Rattle.events.proofs.heir.Heir.{heir-follows}
+use Rattle.events.proofs.accepted.Permitted.{early, low}
+use Rattle.locks.specs.code.Judged.{Judged}
+use Rattle.locks.proofs.Stepped.{judged-unsound, stepped}
 use Rattle.locks.proofs.step.step.Statement.{statement}
 use Rattle.locks.proofs.step.step.Tie as tie
-use Rattle.locks.proofs.step.step.Reads as reads
-use Rattle.locks.proofs.step.step.Lts as lts
-use Rattle.locks.proofs.finish.outcome.Reads as outcome-reads
-use Rattle.locks.proofs.judge.judge.Reads as judge-reads
-use Rattle.locks.proofs.judge.reply.Reads as reply-reads
-use Rattle.locks.proofs.requeue.requeue.Reads as requeue-reads
-use Rattle.locks.proofs.slots.slot_of.Reads as slot-of-reads
-use Rattle.table.proofs.check.check.Reads as check-reads
-use Rattle.table.proofs.queues.wide.Reads as wide-reads
 
--- The points that several facts are read from: where the function begins,
-abbrev Entry : Type 0
-Entry = lts.Start (check-reads.Asked, check-reads.Learnt, reply-reads.Asked, reply-reads.Learnt, judge-reads.Asked, judge-reads.Learnt, slot-of-reads.Asked, slot-of-reads.Learnt, wide-reads.Asked, wide-reads.Learnt, requeue-reads.Asked, requeue-reads.Learnt, outcome-reads.Asked, outcome-reads.Learnt) reads.Pre reads.Post
-
--- where the record is judged,
-abbrev Judging : Type 0
-Judging = lts.Joined1 (check-reads.Asked, check-reads.Learnt, reply-reads.Asked, reply-reads.Learnt, judge-reads.Asked, judge-reads.Learnt, slot-of-reads.Asked, slot-of-reads.Learnt, wide-reads.Asked, wide-reads.Learnt, requeue-reads.Asked, requeue-reads.Learnt, outcome-reads.Asked, outcome-reads.Learnt) reads.Pre reads.Post
-
--- where it is accepted,
-abbrev Accepted : Type 0
-Accepted = lts.Then2 (check-reads.Asked, check-reads.Learnt, reply-reads.Asked, reply-reads.Learnt, judge-reads.Asked, judge-reads.Learnt, slot-of-reads.Asked, slot-of-reads.Learnt, wide-reads.Asked, wide-reads.Learnt, requeue-reads.Asked, requeue-reads.Learnt, outcome-reads.Asked, outcome-reads.Learnt) reads.Pre reads.Post
-
--- and where the slot or the queue is written.
-abbrev Written : Type 0
-Written = lts.Joined3 (check-reads.Asked, check-reads.Learnt, reply-reads.Asked, reply-reads.Learnt, judge-reads.Asked, judge-reads.Learnt, slot-of-reads.Asked, slot-of-reads.Learnt, wide-reads.Asked, wide-reads.Learnt, requeue-reads.Asked, requeue-reads.Learnt, outcome-reads.Asked, outcome-reads.Learnt) reads.Pre reads.Post
-
-abbrev entry : Judging → Entry
+-- where the record is judged, from where the function begins
+abbrev entry : tie.Joined1 → tie.Start
 entry c = c .before .before .before .before .before .before .before .before .before .before .before .before
 
-abbrev judging : Accepted → Judging
+abbrev judging : tie.Then2 → tie.Joined1
 judging c = c .before .before
 
-abbrev accepting : Written → Accepted
-accepting c = c .before .before
+-- a table by value has the sizes of its arrays by its type
+shape : (c : tie.Start) → Shape (c .args .t1)
+shape c = record {
+  live-size = search needs;
+  priority-size = search needs;
+  time-size = search needs;
+  current-priority-size = search needs;
+  current-time-size = search needs;
+  queue-size = search needs;
+  length-size = search needs;
+}
+
+-- what the test hands on
+checked : (c : tie.Joined1) → Checked-right (entry c .args .t1) (c .before .before .before .check .result)
+checked c = c .before .before .before .check .ensures (shape (entry c))
 
 -- before the event: the answer of the refusals
-judged : (c : Judging) → Judged (entry c .args .t1) (entry c .args .e) (c .before .before .before .check .result .sound) (c .if1 .answer)
+judged : (c : tie.Joined1) → Judged (entry c .args .t1) (entry c .args .e) (c .before .before .before .check .result .sound) (c .if1 .answer)
 judged c =
     let h = entry c .args in
-    let k = c .before .before .before .check .ensures in
-    ⊎-elim {C = Judged (h .t1) (h .e) (c .before .before .before .check .result .sound) (c .if1 .answer)}
-    (λ w. subst (Judged (h .t1) (h .e) (c .before .before .before .check .result .sound)) (sym (w .9)) (w .8 .ensures (h .t1) _ _ k (w .0 .taken) refl refl refl refl))
-    (λ w. judged-unsound (h .t1) (h .e) k (c .if1 .answer) (w .0 .left) (w .1 ∙ c .before .reply .ensures))
+    let r = c .before .before .before .check .result in
+    ⊎-elim {C = Judged (h .t1) (h .e) (r .sound) (c .if1 .answer)}
+    (λ w. subst (λ (b : Bool). Judged (h .t1) (h .e) b (c .if1 .answer)) (sym (w .0 .taken)) (subst (Judged (h .t1) (h .e) true) (sym (w .8)) (w .7 .ensures (h .t1) (r .own) (checked c .known (w .0 .taken)) refl refl)))
+    (λ w. judged-unsound (h .t1) (h .e) (c .if1 .answer) (checked c) (w .0 .left) (w .1 ∙ c .before .reply .ensures))
     (c .if1 .came)
 
 -- where its number is 0, the table is sound and the record is not refused
-let-in : (c : Accepted) → let h = entry (judging c) .args in let r = judging c .before .before .before .check .result in
-    Checked-right (h .t1) true (r .waits) (r .own) (r .current) × (lowest (refusals (h .t1) (h .e)) ≡ 0)
-let-in c =
-    let r = judging c .before .before .before .check .result in
-    let p = judged (judging c) .passes (c .if2 .taken) in
-    (subst (λ (b : Bool). Checked-right (entry (judging c) .args .t1) b (r .waits) (r .own) (r .current)) (p .0) (judging c .before .before .before .check .ensures), p .1)
+unrefused : (c : tie.Then2) → (judging c .before .before .before .check .result .sound ≡ true) × (lowest (refusals (entry (judging c) .args .t1) (entry (judging c) .args .e)) ≡ 0)
+unrefused c = judged (judging c) .passes (c .if2 .taken)
 
-accepted-event : (c : Accepted) → Admitted (entry (judging c) .args .t1) (entry (judging c) .args .e)
-accepted-event c = let g = let-in c in admits (entry (judging c) .args .t1) (entry (judging c) .args .e) (g .0) (g .1)
+thread-low : (c : tie.Then2) → entry (judging c) .args .e .thread < 32
+thread-low c = low (entry (judging c) .args .t1) (entry (judging c) .args .e) (shape (entry (judging c))) (unrefused c .1)
 
--- after the slot or the queue is written
-at-work : (c : Written) → let h = entry (judging (accepting c)) .args in let r = judging (accepting c) .before .before .before .check .result in
-    At-work (h .t1) (h .e) (r .waits) (r .own) (r .current) (c .if3 .t) (c .if3 .sizes)
-at-work c =
-    let t = entry (judging (accepting c)) .args .t1 in
-    let e = entry (judging (accepting c)) .args .e in
-    let r = judging (accepting c) .before .before .before .check .result in
-    let g = let-in (accepting c) in
-    ⊎-elim {C = At-work t e (r .waits) (r .own) (r .current) (c .if3 .t) (c .if3 .sizes)}
-    (λ w. slot-written t e (g .0) (g .1) (w .0 .taken) (w .2 .result) (w .1 .result) (c .if3 .t) (c .if3 .sizes) (w .2 .ensures .0) (w .1 .ensures) (w .3) (w .4))
-    (λ w. let late = w .0 .left in
-    queue-written t e (g .0) (g .1) late (w .5 .last .0) (w .5 .last .1 .0) (c .if3 .t) (c .if3 .sizes) (w .5 .ensures t (requeues t e (g .0) (g .1) late)) (w .6) (w .7))
-    (c .if3 .came)
+-- so that there is a slot of it
+in-table : (c : tie.After-wide) → c .wide .result < 32
+in-table c = omega (arith, c .wide .ensures .0, thread-low (c .before))
+
+-- at a V the heir follows
+follows : (f : tie.After-follower) → let h = entry (judging (f .before .before .before .before .before .before .before .before .before .before .before)) .args in
+    h .e .kind ≡ 5 → (f .follower .result < at (h .t1 .length) (h .e .argument)) × (next-at (h .t1 .queue) (h .e .argument) (f .follower .result) ≡ heir (h .t1) (queues (h .t1) (h .e .argument)))
+follows f =
+    let d = f .before .before .before .before .before .before .before .before .before .before .before in
+    f .follower .ensures (entry (judging d) .args .t1) _ _ _ (checked (judging d) .known (unrefused d .0)) (unrefused d .1) refl refl
+
+-- the event is carried out from the table's arrays
+accepted : (f : tie.After-follower) → let d = f .before .before .before .before .before .before .before .before .before .before .before in let h = entry (judging d) .args in let r = judging d .before .before .before .check .result in
+    Accepted (h .t1) (h .e) (h .t1 .queue) (h .t1 .length) (r .holders) (r .waits) (r .own) (r .current) (f .before .before .before .before .before .before .of .result) (h .t1 .clock) (f .follower .result)
+accepted f =
+    let c = f .before .before .before .before .before .before in
+    let d = c .before .before .before .before .before in
+    let t = entry (judging d) .args .t1 in record {
+      known = checked (judging d) .known (unrefused d .0);
+      unrefused = unrefused d .1;
+      queue-is = refl;
+      lengths-are = refl;
+      slot-is = rw (c .before .before .before .before .wide .ensures .0) at (c .of .ensures);
+      clock-is = refl;
+      place = λ k. follows f k .0;
+      follows = λ k. rw (follows f k .1) (heir-follows t (queues t _) (checked (judging d) .known (unrefused d .0) .sound .bare .queues-right .differ _));
+    }
 
 check-requires : tie.Need-check-requires
 check-requires c κs = search needs
@@ -93,49 +96,61 @@ reply-requires c κs = search needs
 judge-requires : tie.Need-judge-requires
 judge-requires c κs = search needs
 
-slot-of-requires : tie.Need-slot-of-requires
-slot-of-requires c κs = search needs
-
 wide-requires : tie.Need-wide-requires
 wide-requires c κs = search needs
 
-element-write-t : tie.Need-element-write-t
-element-write-t c = omega (arith, c .wide .ensures .0, accepted-event (c .before .before .before .before) .thread-small)
+element-copy-out-of : tie.Need-element-copy-out-of
+element-copy-out-of c = in-table c
 
-element-write-t-2 : tie.Need-element-write-t-2
-element-write-t-2 c = omega (arith, c .wide .ensures .0, accepted-event (c .before .before .before .before) .thread-small)
+element-copy-out-of-2 : tie.Need-element-copy-out-of-2
+element-copy-out-of-2 c = in-table (c .before)
 
-mul-t : tie.Need-mul-t
-mul-t c = search needs
+mul-of : tie.Need-mul-of
+mul-of c = search needs
 
-element-write-t-3 : tie.Need-element-write-t-3
-element-write-t-3 c = omega (arith, c .wide .ensures .0, accepted-event (c .before .before .before .before) .thread-small)
+element-copy-out-of-3 : tie.Need-element-copy-out-of-3
+element-copy-out-of-3 c = in-table (c .before .before)
 
-requeue-requires : tie.Need-requeue-requires
-requeue-requires c κs =
-    let h = entry (judging (c .before .before .before .before .before .before)) .args in
-    let g = let-in (c .before .before .before .before .before .before) in
-    (h .t1, requeues (h .t1) (h .e) (g .0) (g .1) (c .before .before .before .before .if3 .left))
+of-requires : tie.Need-of-requires
+of-requires c κs = search needs
 
-outcome-requires : tie.Need-outcome-requires
-outcome-requires c κs =
-    let w = c .before .before .before .before .before .before .before in
-    let h = entry (judging (accepting w)) .args in
-    (h .t1, worked (h .t1) (h .e) (at-work w))
+follower-requires : tie.Need-follower-requires
+follower-requires c κs =
+    let d = c .before .before .before .before .before .before .before .before .before .before in
+    (entry (judging d) .args .t1, _, _, _, checked (judging d) .known (unrefused d .0), unrefused d .1, refl)
+
+carry-out-requires : tie.Need-carry-out-requires
+carry-out-requires c κs = let f = c .before .before .before .before .before .before .before in (entry (judging (f .before .before .before .before .before .before .before .before .before .before .before)) .args .t1, accepted f)
 
 add-t : tie.Need-add-t
 add-t c =
-    let w = c .before .before .before .before .before .before .before .before .before .before in
-    let h = entry (judging (accepting w)) .args in
-    let l = clock-low (h .t1) (h .e) (at-work w) in
+    let d = c .before .before .before .before .before .before .before .before .before .before .before .before .before .before .before .before .before .before .before .before .before .before in
+    let h = entry (judging d) in
+    let l = early (h .args .t1) (h .args .e) (shape h) (unrefused d .1) in
     omega arith
+
+element-write-t : tie.Need-element-write-t
+element-write-t c = in-table (c .before .before .before .before .before .before .before .before .before .before .before .before .before .before .before .before .before .before .before .before .before)
+
+element-write-t-2 : tie.Need-element-write-t-2
+element-write-t-2 c = in-table (c .before .before .before .before .before .before .before .before .before .before .before .before .before .before .before .before .before .before .before .before .before)
+
+mul-t : tie.Need-mul-t
+mul-t c = omega (arith, c .before .before .before .before .before .before .before .before .before .before .before .before .before .before .before .before .before .before .before .before .before .wide .ensures .1)
+
+element-write-t-3 : tie.Need-element-write-t-3
+element-write-t-3 c = in-table (c .before .before .before .before .before .before .before .before .before .before .before .before .before .before .before .before .before .before .before .before .before)
+
+reply-requires-2 : tie.Need-reply-requires-2
+reply-requires-2 c κs = search needs
 
 returns : tie.Need-returns
 returns c =
-    let w = c .before .before .before .before .before .before .before .before .before .before .before in
-    let h = entry (judging (accepting w)) .args in
-    let o = c .before .before .before .outcome in
-    subst (λ (u : Table). record { table = with-current u (o .result .priority) (o .result .time); answer = o .result .answer } ≡ answerOf (h .t1) (h .e)) (sym (at-work w .made)) (o .ensures (h .t1) (worked (h .t1) (h .e) (at-work w)))
+    let f = c .before .before .before .before .before .before .before .before .before .before .before .before in
+    let w = f .before .before .before .before .before .before .before .before .before .before in
+    let d = w .before in
+    let h = entry (judging d) .args in
+    rw (w .wide .ensures .0) (stepped (h .t1) (h .e) (unrefused d .1) (λ k. follows f k .1) (c .before .before .before .before .carry-out .ensures (h .t1) (accepted f)) (c .reply2 .result) (c .reply2 .ensures))
 
 returns-2 : tie.Need-returns-2
 returns-2 c = judged (c .before .before) .stands (c .if2 .left)
@@ -147,14 +162,19 @@ step-spec =
     check-requires
     reply-requires
     judge-requires
-    slot-of-requires
     wide-requires
+    element-copy-out-of
+    element-copy-out-of-2
+    mul-of
+    element-copy-out-of-3
+    of-requires
+    follower-requires
+    carry-out-requires
+    add-t
     element-write-t
     element-write-t-2
     mul-t
     element-write-t-3
-    requeue-requires
-    outcome-requires
-    add-t
+    reply-requires-2
     returns
     returns-2)

@@ -4,8 +4,8 @@ use native.Mathlib.Omega.{arith}
 use borrow.Author.Count.{below-more}
 use borrow.Author.Needs.{needs}
 use Rattle.table.specs.Table.{at}
-use Rattle.table.specs.Parts.{slot-number}
-use Rattle.table.proofs.Filled.{Filled, fill-none, fill-next}
+use Rattle.table.specs.code.Places.{slot-number}
+use Rattle.table.proofs.arrays.Filled.{Filled, fill-none, fill-next}
 use Rattle.table.proofs.numbers.numbers.Statement.{statement}
 use Rattle.table.proofs.numbers.numbers.Tie as tie
 

@@ -5,19 +5,19 @@ use mathlib.Core.Path.{_≡_}
 use native.Mathlib.Omega.{arith}
 use borrow.Author.Needs.{needs}
 use Rattle.protocol.specs.Sets.{Max}
-use Rattle.table.specs.Parts.{Lengths}
-use Rattle.table.proofs.Maxima.{of-two, length-none, length-next}
+use Rattle.table.specs.code.Places.{Lengths}
+use Rattle.table.proofs.arrays.Maxima.{of-two, length-none, length-next}
 use Rattle.table.proofs.queues.longest.Statement.{statement}
 use Rattle.table.proofs.queues.longest.Tie as tie
 
 abbrev Inv-loop : tie.InvT-loop
-Inv-loop length n₀ r₀ n r = (r ≤ 16) × Max _≤_ (Lengths length r) n
+Inv-loop lengths n₀ r₀ n r = (r ≤ 16) × Max _≤_ (Lengths lengths r) n
 
 abbrev μ-loop : tie.MeasureT-loop
-μ-loop length n₀ r₀ n r = 16 - r
+μ-loop lengths n₀ r₀ n r = 16 - r
 
 loop-holds : tie.Need-loop-holds Inv-loop μ-loop
-loop-holds c = (omega arith, length-none (c .args .length .now))
+loop-holds c = (omega arith, length-none (c .args .lengths .now))
 
 element-copy-out-longer : tie.Need-element-copy-out-longer Inv-loop μ-loop
 element-copy-out-longer c = search needs
@@ -35,7 +35,7 @@ loop-again : tie.Need-loop-again Inv-loop μ-loop
 loop-again c =
     let s = c .before .before .before .loop in
     let a = c .before .before .before .before .args in
-    (omega arith, length-next (a .length .now) (of-two _ _ _ (c .longer .ensures)) (s .inv .1))
+    (omega arith, length-next (a .lengths .now) (of-two _ _ _ (c .longer .ensures)) (s .inv .1))
 
 returns : tie.Need-returns Inv-loop μ-loop
 returns c =

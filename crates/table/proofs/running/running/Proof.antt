@@ -1,4 +1,4 @@
--- `table::running::running` meets its contract. The loop's invariant: `best` and `high` are the runner among the first `i` threads and its number.
+-- `table::running::running` meets its contract. The loop's invariant: `best` and `high` are the highest ready thread among the first `i` threads and its number.
 -- The measure is the number of threads left. Assumes nothing.
 use Prim.Native.Nat.{_≤_, _-_, _+_}
 use native.Mathlib.Numerals.{add-one}
@@ -8,8 +8,8 @@ use mathlib.Core.Bool.{Bool, true, false, _&&_}
 use mathlib.Core.Logic.{⊎-elim}
 use borrow.Author.Needs.{needs}
 use borrow.Author.Tests.{lt-ltb, le-ltb}
-use Rattle.table.specs.Walks.{runner-number, runner}
-use Rattle.table.proofs.Steps.{runner-takes, runner-keeps}
+use Rattle.table.specs.code.Ready.{ready-number, highest-ready}
+use Rattle.table.proofs.values.Ready.{ready-takes, ready-keeps}
 use Rattle.table.proofs.running.running.Statement.{statement}
 use Rattle.table.proofs.running.running.Tie as tie
 
@@ -18,17 +18,14 @@ and-false true = refl
 and-false false = refl
 
 abbrev Inv-loop : tie.InvT-loop
-Inv-loop waits current best₀ high₀ i₀ best high i = (i ≤ 32) × (high ≡ runner-number waits current i) × (best ≡ runner waits current i)
+Inv-loop waits current best₀ high₀ i₀ best high i = (i ≤ 32) × (high ≡ ready-number waits current i) × (best ≡ highest-ready waits current i)
 
 abbrev μ-loop : tie.MeasureT-loop
 μ-loop waits current best₀ high₀ i₀ best high i = 32 - i
 
 loop-holds : tie.Need-loop-holds Inv-loop μ-loop
-unfolding runner-number runner
+unfolding ready-number highest-ready
 loop-holds c = search needs
-
-cast-k : tie.Need-cast-k Inv-loop μ-loop
-cast-k c = search needs
 
 mul-if1 : tie.Need-mul-if1 Inv-loop μ-loop
 mul-if1 c = search needs
@@ -45,6 +42,9 @@ mul-high c = search needs
 element-copy-out-high : tie.Need-element-copy-out-high Inv-loop μ-loop
 element-copy-out-high c = search needs
 
+cast-best : tie.Need-cast-best Inv-loop μ-loop
+cast-best c = search needs
+
 add-i : tie.Need-add-i Inv-loop μ-loop
 add-i c = search needs
 
@@ -55,8 +55,8 @@ loop-again : tie.Need-loop-again Inv-loop μ-loop
 loop-again c =
     let s = c .before .before .before .loop in
     let a = c .before .before .before .before .args in
-    let take = runner-takes (a .waits .now) (a .current .now) (s .i) (s .i + 1) (s .high) (add-one _) (s .inv .1) in
-    let keep = runner-keeps (a .waits .now) (a .current .now) (s .i) (s .i + 1) (s .high) (add-one _) (s .inv .1) in
+    let take = ready-takes (a .waits .now) (a .current .now) (s .i) (s .i + 1) (s .high) (add-one _) (s .inv .1) in
+    let keep = ready-keeps (a .waits .now) (a .current .now) (s .i) (s .i + 1) (s .high) (add-one _) (s .inv .1) in
     ⊎-elim (λ w. let k = take (rw (lt-ltb _ _ (w .0 .taken), w .2 .taken)) in (omega arith, w .5 ∙ k .0, w .4 ∙ k .1))
     (λ w.
     let k = keep (⊎-elim (λ v. rw (v .2 .left)) (λ v. rw (le-ltb _ _ (v .left), and-false)) (w .0 .came)) in
@@ -75,12 +75,12 @@ running-spec =
     Inv-loop
     μ-loop
     loop-holds
-    cast-k
     mul-if1
     element-copy-out-if1
     element-copy-out-if2
     mul-high
     element-copy-out-high
+    cast-best
     add-i
     loop-less
     loop-again

@@ -1,0 +1,3 @@
+-- The local law along them.
+pub mod Maxima
+pub mod Children

@@ -1,0 +1,3 @@
+// Where chains of waiting lead, and the local law along them.
+pub mod law;
+pub mod ways;

@@ -1,0 +1,3 @@
+-- Laws of the end of an event.
+pub mod Stored
+pub mod Work

@@ -1,0 +1,3 @@
+-- What stays when one slot or one queue is written.
+pub mod Slot
+pub mod Queue

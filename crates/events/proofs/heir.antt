@@ -1,0 +1,4 @@
+-- Who follows at a V.
+pub mod Heir
+pub mod Place
+pub mod Found

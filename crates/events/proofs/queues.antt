@@ -1,0 +1,6 @@
+-- The places of a queue that is written anew.
+pub mod Splice
+pub mod Written
+pub mod Queued
+pub mod MovedUp
+pub mod Shift

@@ -1,0 +1,4 @@
+-- What a V leaves, whoever follows.
+pub mod Passed
+pub mod Successor
+pub mod Work

@@ -1,0 +1,2 @@
+-- Laws of Create, Exit and Set.
+pub mod Work

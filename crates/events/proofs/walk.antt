@@ -1,0 +1,5 @@
+-- The walk of a P, from holder to holder.
+pub mod Steps
+pub mod Walked
+pub mod Rises
+pub mod Sixteen

@@ -1,0 +1,7 @@
+-- What only the code and its proofs speak of.
+pub mod Permits
+pub mod Rows
+pub mod Heir
+pub mod Climb
+pub mod Afresh
+pub mod Work

@@ -1,0 +1,3 @@
+-- Laws of the refusals.
+pub mod tests
+pub mod given

@@ -1,0 +1,83 @@
+-- The parts of the test make its answer. Assumes nothing.
+use Prim.Native.Nat.{ℕ, _≤_, _<_}
+use mathlib.Core.Path.{_≡_, sym, ap, _∙_}
+use mathlib.Core.Bool.{true, false, false≢true}
+use mathlib.Core.List.{List}
+use mathlib.Core.Logic.{_↔_}
+use native.Mathlib.Decide.{ℕ-discrete}
+use native.Mathlib.Omega.{arith}
+use Rattle.protocol.specs.Sets.{_∈_, Max}
+use Rattle.protocol.specs.Rank.{rank}
+use Rattle.protocol.proofs.Highest.{max-unique}
+use Rattle.table.specs.declared.Table.{Table}
+use Rattle.table.specs.Table.{at, live}
+use Rattle.table.specs.Sound.{Bare, Sound}
+use Rattle.table.specs.Compute.{current, holder}
+use Rattle.table.specs.code.Places.{slot-number}
+use Rattle.table.specs.code.Shape.{Shape}
+use Rattle.table.specs.code.Tracks.{current-number, Known}
+use Rattle.table.proofs.sound.Read.{if-live, if-dead, current-stored}
+use Rattle.table.proofs.values.Numbers.{≤-total, slot-live, slot-dead}
+use Rattle.chains.specs.Law.{Compared}
+use Rattle.chains.proofs.ways.Climbs.{Graphed, graphed-waits, graphed-holders}
+use Rattle.soundness.specs.declared.check.Checked.{Checked}
+use Rattle.soundness.specs.Checked.{Checked-right}
+use Rattle.soundness.specs.code.Queues.{Surveyed}
+use Rattle.soundness.proofs.queues.Rules.{surveyed-graphed}
+use Rattle.soundness.proofs.Bounded.{bounded}
+use Rattle.soundness.proofs.Law.{Numbered}
+use Rattle.soundness.proofs.Passed.{Passed, passed-bare, sound-passed, passed-sound, sound-lawful}
+
+-- what `numbers` says of the arrays that it is lent
+abbrev pub Numbers-of : List ℕ → List ℕ → List ℕ → List ℕ → Type 0
+Numbers-of live priority time all =
+    ((th : ℕ) → th < 32 → at all th ≡ slot-number (at live th) (at priority th) (at time th)) × ((th : ℕ) → th < 32 → (at priority th < 256) × (at time th < 65536))
+
+-- a part that fails
+pub fails : (t : Table) → Shape t → (c : Checked) → c .sound ≡ false → ¬ Passed t → Checked-right t c
+fails t shape c failed bad = record { shape = shape; known = λ e. absurd (false≢true (sym failed ∙ e)); passes = λ s. absurd (bad (sound-passed t shape s)) }
+
+module _ (t : Table) (shape : Shape t) (c : Checked)
+    (owns : Numbers-of (t .live) (t .priority) (t .time) (c .own))
+    (currents : Numbers-of (t .live) (t .«current_priority») (t .«current_time») (c .current)) where
+  numbered : Numbered t (c .own) (c .current)
+  numbered = record { owns-are = owns .0; currents-are = currents .0; current-times-fit = bounded (t .«current_time») 32 65535 (shape .current-time-size) (λ th h. omega (arith, currents .1 th h .1)) }
+
+  priorities : (th : ℕ) → at (t .priority) th ≤ 255
+  priorities = bounded (t .priority) 32 255 (shape .priority-size) (λ th h. omega (arith, owns .1 th h .0))
+
+  -- in a sound table what is stored is what is defined
+  defined : Sound t → (th : ℕ) → th < 32 → at (c .current) th ≡ current-number t th
+  defined s th h = currents .0 th h ∙ go (ℕ-discrete (at (t .live) th) 1)
+    where
+      go : Dec (th ∈ live t) → slot-number (at (t .live) th) (at (t .«current_priority») th) (at (t .«current_time») th) ≡ current-number t th
+      go (yes l) = slot-live (at (t .live) th) (at (t .«current_priority») th) (at (t .«current_time») th) l ∙ sym (if-live t th (rank 65535 (current t th)) l ∙ ap (rank 65535) (current-stored t shape s th l))
+      go (no n) = slot-dead (at (t .live) th) (at (t .«current_priority») th) (at (t .«current_time») th) n ∙ sym (if-dead t th (rank 65535 (current t th)) n)
+
+  -- the last part decides
+  pub decides : t .clock < 65536 → Passed t → Surveyed (t .queue) (t .length) 16 (c .waits) (c .holders) →
+      (v : List ℕ) → ((th : ℕ) → th < 32 → Max _≤_ (Compared (t .queue) (t .length) (c .holders) (c .current) 16 (at (c .own) th) th) (at v th)) →
+      (c .sound ≡ true) ↔ ((th : ℕ) → th < 32 → at v th ≡ at (c .current) th) → Checked-right t c
+  decides clock p surveyed v worth same = record {
+    shape = shape;
+    known = λ e. known (passed-sound t shape (c .holders) holders-right numbered bare p
+        (λ th h. rw (same .0 e th h) at (worth th h)));
+    passes = λ s. same .1 (λ th h. max-unique _≤_ ≤-total (worth th h) (sound-lawful t shape (c .holders) holders-right numbered s th h));
+  }
+    where
+      bare : Bare t
+      bare = passed-bare t shape (omega arith) priorities p
+
+      graphed : Graphed t (c .waits) (c .holders)
+      graphed = surveyed-graphed t shape (p .rows) surveyed
+
+      holders-right : (cs : ℕ) → cs < 16 → at (c .holders) cs ≡ holder t cs
+      holders-right = graphed-holders t shape (bare .queues-right) graphed
+
+      known : Sound t → Known t (c .waits) (c .holders) (c .own) (c .current)
+      known s = record {
+        shape = shape;
+        sound = s;
+        tracks = record { waits-right = graphed-waits t shape (bare .queues-right) graphed; holders-right = holders-right; currents-right = defined s };
+        owns-right = owns .0;
+      }

@@ -1,0 +1,2 @@
+-- What the parts of the test for soundness decide, place by place.
+pub mod Queues

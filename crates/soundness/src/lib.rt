@@ -1,0 +1,3 @@
+// The test whether a table is sound, and what it works out on the way.
+pub mod check;
+mod queues;

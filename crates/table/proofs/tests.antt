@@ -1,0 +1,4 @@
+-- The definitions that compute are the table's definitions.
+pub mod Reflect
+pub mod Computed
+pub mod Decided
