@@ -40,7 +40,7 @@ module _ (t : Table) (e : Record) where
   module _ (sound : is-sound t ≡ true) where
     past-1 : lowest (refusals t e) ≡ lowest (by-record e ++ (by-thread t e ++ by-queues t e))
     unfolding lowest unsound refusals
-    past-1 = rw sound
+    past-1 = rw sound refl
 
     pub given-record : lowest (by-record e) ≢ 0 → lowest (refusals t e) ≡ lowest (by-record e)
     given-record n = past-1 ∙ of-first (by-record e) (by-thread t e ++ by-queues t e) n

@@ -53,7 +53,7 @@ no-9 c t owns currents known h runs = ⊎-elim
 no-10 : (c : tie.Joined3) (t : Table) (owns currents : List ℕ) → let a = c .before .before .args in Known t (a .waits .now) (a .holders .now) owns currents →
     (eqb (a .e .kind) 5 && not (eqb (holder t (a .e .argument)) (a .e .thread))) ≡ false
 no-10 c t owns currents known = ⊎-elim
-    (λ v. rw (v .0 .taken, ← known-holder known _ _ (c .before .before .pre (inr (v .0 .taken))) (v .1 .ensures .0), v .3 .left))
+    (λ v. rw (v .0 .taken, ← known-holder known _ _ (c .before .before .pre (inr (v .0 .taken))) (v .1 .ensures .0), v .3 .left) refl)
     (λ v. rw (ne-eqb _ _ (v .left)))
     (c .if3 .came)
 

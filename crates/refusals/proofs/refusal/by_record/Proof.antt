@@ -1,4 +1,5 @@
 -- `refusals::refusal::by_record` meets its contract: its tests are those of the definition. Assumes nothing.
+use mathlib.Core.Path.{refl}
 use borrow.Author.Needs.{needs}
 use borrow.Author.Tests.{lt-leb, le-leb}
 use Rattle.refusals.specs.Refusals.{lowest, by-record}
@@ -21,7 +22,7 @@ malformed-requires c κs = search needs
 
 returns-3 : tie.Need-returns-3
 unfolding lowest by-record
-returns-3 c = rw (c .before .before .before .before .if1 .left, ← c .before .malformed .ensures, c .if3 .taken, ← c .before .before .before .wide .ensures .0, lt-leb _ _ (c .before .before .if2 .left))
+returns-3 c = rw (c .before .before .before .before .if1 .left, ← c .before .malformed .ensures, c .if3 .taken, ← c .before .before .before .wide .ensures .0, lt-leb _ _ (c .before .before .if2 .left)) refl
 
 returns-4 : tie.Need-returns-4
 unfolding lowest by-record

@@ -1,5 +1,5 @@
 -- `refusals::refusal::by_thread` meets its contract: its tests are those of the definition. Assumes nothing.
-use mathlib.Core.Path.{_≡_, sym, _∙_}
+use mathlib.Core.Path.{_≡_, refl, sym, _∙_}
 use mathlib.Core.Bool.{cond, not, _&&_}
 use borrow.Author.Needs.{needs}
 use borrow.Author.Tests.{eq-eqb, ne-eqb}
@@ -35,7 +35,7 @@ returns-2 c t clock live running =
 returns-3 : tie.Need-returns-3
 unfolding lowest by-thread
 returns-3 c t clock live running =
-    rw (ne-eqb _ _ (λ q. c .before .before .if1 .left (sym clock ∙ q)), alive (c .before .before .before .before) t live, c .before .if2 .left, c .if3 .taken)
+    rw (ne-eqb _ _ (λ q. c .before .before .if1 .left (sym clock ∙ q)), alive (c .before .before .before .before) t live, c .before .if2 .left, c .if3 .taken) refl
 
 -- past the first three, only 8 is left
 only-8 : (c : tie.Else3) (t : Table) → let a = c .before .before .before .before .before .before .args in t .clock ≡ a .clock → t .live ≡ a .live .now →
