@@ -11,9 +11,10 @@
  *   - up to 2 KiB of stack (measured; bench/FIGURES.md). The red zone is used, the 128 bytes below the stack pointer: no interrupt may write there.
  *
  * What this file says of the calls is proved, for every table and every argument: in crates/locktable/src/lib.rt that a call does to the lent table
- * what the function does that has it by value; in crates/locks/src what that function answers and makes of the table (step.rt, queries.rt), in
- * the terms that the specs of crates locks, events, refusals and table define; in crates/events/proofs that an accepted event leaves a sound table
- * (kept/Stays.antt) and that a count is at most 16 (walk/Sixteen.antt). What a caller needs, above, and the layout, below, are not proved. */
+ * what the function does that has it by value; in crates/locks/src/step.rt and crates/queries/src/lib.rt what that function answers and makes of
+ * the table, in the terms that the specs of crates locks, queries, events, refusals and table define; in crates/events/proofs that an accepted
+ * event leaves a sound table (kept/Stays.antt) and that a count is at most 16 (walk/Sixteen.antt). What a caller needs, above, and the layout,
+ * below, are not proved. */
 #ifndef LOCKTABLE_H
 #define LOCKTABLE_H
 

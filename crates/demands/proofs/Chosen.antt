@@ -18,7 +18,7 @@ use Rattle.table.specs.Table as table
 use Rattle.table.specs.Table.{own, queues}
 use Rattle.refusals.specs.declared.Record.{Record}
 use Rattle.events.specs.Events.{heir, event-of}
-use Rattle.events.proofs.accepted.{own-top, heir-follows}
+use Rattle.events.proofs.Heir.{own-top, heir-follows}
 use Rattle.events.proofs.accepted.Named.{names-create, names-exit, names-set, names-request, names-release}
 use Rattle.demands.specs.Runs.{Chosen, Writes, create, exit, set-anew, request, release}
 use Rattle.demands.proofs.Agrees.{Reached, ordered, same-queues}

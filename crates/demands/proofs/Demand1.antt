@@ -20,8 +20,8 @@ use Rattle.refusals.specs.Applies.{Given}
 use Rattle.refusals.proofs.tests.Tells.{tells-false}
 use Rattle.refusals.proofs.given.Exactly.{exactly, given-low}
 use Rattle.events.proofs.kept.Stays.{Right}
+use Rattle.queries.specs.Queries.{running-answer, thread-told, thread-answer, resource-told, resource-answer}
 use Rattle.locks.specs.declared.Done.{Done}
-use Rattle.locks.specs.Queries.{running-answer, thread-told, thread-answer, resource-told, resource-answer}
 use Rattle.demands.specs.Calls.{Any-table, Any-record, Calls, As-stated}
 use Rattle.demands.specs.Fixed as fixed
 use Rattle.demands.specs.Fixed.{Running-number, Thread-number, Resource-number}

@@ -17,8 +17,8 @@ use Rattle.table.specs.Compute.{runner}
 use Rattle.table.proofs.sound.Read.{runs}
 use Rattle.refusals.specs.declared.Record.{Record}
 use Rattle.refusals.proofs.given.Formed.{formed-kind}
+use Rattle.queries.specs.Queries.{thread-refused, resource-refused}
 use Rattle.locks.specs.declared.Done.{Done}
-use Rattle.locks.specs.Queries.{thread-refused, resource-refused}
 use Rattle.demands.specs.Calls.{Any-table, Any-record, Calls, As-stated}
 use Rattle.demands.specs.Runs.{table-after, number-of, Any-records, Writes, History, Well-formed}
 use Rattle.demands.specs.Told.{Shows, Names-running, Running-told, Thread-told, Resource-told}

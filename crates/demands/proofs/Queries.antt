@@ -22,8 +22,8 @@ use Rattle.table.proofs.sound.Queues.{live-low}
 use Rattle.table.proofs.sound.Read.{runs, waited, current-stored, queue-length}
 use Rattle.refusals.specs.Refusals.{unsound, lowest}
 use Rattle.events.proofs.kept.Stays.{Right}
-use Rattle.locks.specs.Queries.{running-refusals, running-answer, thread-refusals, thread-refused, thread-told as thread-table, thread-answer, resource-refusals, resource-refused, resource-told as resource-table, resource-answer}
-use Rattle.locks.proofs.Told.{waiters-are}
+use Rattle.queries.specs.Queries.{running-refusals, running-answer, thread-refusals, thread-refused, thread-told as thread-table, thread-answer, resource-refusals, resource-refused, resource-told as resource-table, resource-answer}
+use Rattle.queries.proofs.Told.{waiters-are}
 use Rattle.demands.specs.Told.{Running-told, Names-waited, Thread-told, Names-holder, Resource-told}
 use Rattle.demands.proofs.Agrees.{Reached, good, ordered, same-queues}
 use Rattle.demands.proofs.Same.{names-running, shows}

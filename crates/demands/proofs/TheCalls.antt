@@ -1,7 +1,7 @@
 -- The functions that the contracts name do what the contracts say, so `As-stated` can be met; of these the demands hold with no premise at all. Assumes nothing.
 use mathlib.Core.Path.{refl}
+use Rattle.queries.specs.Queries.{running-answer, thread-answer, resource-answer}
 use Rattle.locks.specs.Answers.{answerOf}
-use Rattle.locks.specs.Queries.{running-answer, thread-answer, resource-answer}
 use Rattle.demands.specs.Calls.{Calls, As-stated}
 use Rattle.demands.proofs.Demand1.{Demand-1, demand-1}
 use Rattle.demands.proofs.Demand2.{Demand-2, demand-2}

@@ -21,10 +21,10 @@ use Rattle.table.proofs.Table.Laws as table-laws
 use Rattle.refusals.specs.declared.Record.{Record}
 use Rattle.refusals.proofs.Record as four-bytes
 use Rattle.refusals.proofs.Record.Laws as four-bytes-laws
+use Rattle.queries.proofs.running_of.Kinds as running-of
+use Rattle.queries.proofs.thread_of.Kinds as thread-of
+use Rattle.queries.proofs.resource_of.Kinds as resource-of
 use Rattle.locks.proofs.step.step.Kinds as step
-use Rattle.locks.proofs.queries.running_of.Kinds as running-of
-use Rattle.locks.proofs.queries.thread_of.Kinds as thread-of
-use Rattle.locks.proofs.queries.resource_of.Kinds as resource-of
 use Rattle.demands.specs.Calls.{Array, Any-table, Any-record}
 
 -- An array of numbers of one width, of which `highest` is the highest.

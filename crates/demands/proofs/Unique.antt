@@ -24,12 +24,12 @@ use Rattle.refusals.proofs.given.Exactly.{exactly, given-none}
 use Rattle.events.specs.Events.{event-of}
 use Rattle.events.specs.Count.{count}
 use Rattle.events.proofs.accepted.Named.{names-create}
+use Rattle.queries.specs.declared.RunningAnswer.{RunningAnswer}
+use Rattle.queries.specs.declared.ThreadAnswer.{ThreadAnswer}
+use Rattle.queries.specs.declared.ResourceAnswer.{ResourceAnswer}
+use Rattle.queries.specs.Queries.{running-answer, thread-answer, resource-answer}
 use Rattle.locks.specs.declared.Answer.{Answer}
 use Rattle.locks.specs.declared.Done.{Done}
-use Rattle.locks.specs.declared.queries.RunningAnswer.{RunningAnswer}
-use Rattle.locks.specs.declared.queries.ThreadAnswer.{ThreadAnswer}
-use Rattle.locks.specs.declared.queries.ResourceAnswer.{ResourceAnswer}
-use Rattle.locks.specs.Queries.{running-answer, thread-answer, resource-answer}
 use Rattle.locks.specs.Answers.{accepted as answer-accepted, refused as answer-refused, answerOf}
 use Rattle.locks.proofs.Answered.{refused-is, let-through}
 use Rattle.demands.specs.Calls.{Any-table, Any-record, Calls, Step-says, Running-says, Thread-says, Resource-says, As-stated}

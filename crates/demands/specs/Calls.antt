@@ -6,14 +6,14 @@ use lib.ListN.{length}
 use Rattle.table.specs.declared.Table.{Table}
 use Rattle.table.specs.Table.{at}
 use Rattle.refusals.specs.declared.Record.{Record}
+use Rattle.queries.specs.declared.RunningAnswer.{RunningAnswer}
+use Rattle.queries.specs.declared.ThreadAnswer.{ThreadAnswer}
+use Rattle.queries.specs.declared.ResourceAnswer.{ResourceAnswer}
+use Rattle.queries.proofs.running_of.Reads as running-of
+use Rattle.queries.proofs.thread_of.Reads as thread-of
+use Rattle.queries.proofs.resource_of.Reads as resource-of
 use Rattle.locks.specs.declared.Done.{Done}
-use Rattle.locks.specs.declared.queries.RunningAnswer.{RunningAnswer}
-use Rattle.locks.specs.declared.queries.ThreadAnswer.{ThreadAnswer}
-use Rattle.locks.specs.declared.queries.ResourceAnswer.{ResourceAnswer}
 use Rattle.locks.proofs.step.step.Reads as step
-use Rattle.locks.proofs.queries.running_of.Reads as running-of
-use Rattle.locks.proofs.queries.thread_of.Reads as thread-of
-use Rattle.locks.proofs.queries.resource_of.Reads as resource-of
 
 -- an array of n numbers, none above the highest that its type can hold
 pub record Array (n highest : ℕ) (xs : List ℕ) : Type 0 where
@@ -46,7 +46,7 @@ pub record Calls : Type 0 where
   pub resource-of : Table → ℕ → ResourceAnswer
 
 -- What the contract of a public call says of arguments and a result: where what it asks holds, what it lets a caller learn. `Asked` and `Learnt` are read off the clauses themselves
--- (locks/src/step.rt, locks/src/queries.rt). They take the lifetimes, none here, then the arguments as a row that ends with `tt`, the result, and the arguments as they are after the call.
+-- (locks/src/step.rt, queries/src/lib.rt). They take the lifetimes, none here, then the arguments as a row that ends with `tt`, the result, and the arguments as they are after the call.
 
 -- the step
 abbrev pub Step-says : Table → Record → Done → Type 0

@@ -10,9 +10,9 @@ use Rattle.protocol.specs.Schedule.{wq, holds, waits, cprec, running}
 use Rattle.table.specs.declared.Table.{Table}
 use Rattle.table.specs.Table.{at, live, stored, queues}
 use Rattle.table.specs.Sound.{Zero-slot}
-use Rattle.locks.specs.declared.queries.RunningAnswer.{RunningAnswer}
-use Rattle.locks.specs.declared.queries.ThreadAnswer.{ThreadAnswer}
-use Rattle.locks.specs.declared.queries.ResourceAnswer.{ResourceAnswer}
+use Rattle.queries.specs.declared.RunningAnswer.{RunningAnswer}
+use Rattle.queries.specs.declared.ThreadAnswer.{ThreadAnswer}
+use Rattle.queries.specs.declared.ResourceAnswer.{ResourceAnswer}
 
 -- the table shows the state: each of its fields is what the paper's definitions give
 pub record Shows (t : Table) (s : State) : Type 0 where

@@ -2,5 +2,3 @@
 pub mod Splice
 pub mod Written
 pub mod Queued
-pub mod MovedUp
-pub mod Shift

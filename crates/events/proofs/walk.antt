@@ -1,5 +1,3 @@
 -- The walk of a P, from holder to holder.
 pub mod Steps
-pub mod Walked
-pub mod Rises
 pub mod Sixteen

@@ -1,7 +1,4 @@
 -- What only the code and its proofs speak of.
 pub mod Permits
 pub mod Rows
-pub mod Heir
-pub mod Climb
-pub mod Afresh
 pub mod Work

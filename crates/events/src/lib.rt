@@ -1,8 +1,1 @@
-// What each event makes of the table and of the arrays that go with it.
-mod apply;
-mod climb;
-pub mod finish;
-pub mod heir;
-mod release;
-mod request;
-mod slots;
+// What each event makes of the table: see specs/. There is no function here.

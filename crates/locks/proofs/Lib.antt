@@ -1,4 +1,3 @@
--- Why the calls give what specs/ says.
-pub mod Told
+-- Why the step gives what specs/ says.
 pub mod Answered
 pub mod Stepped

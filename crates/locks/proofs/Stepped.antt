@@ -10,15 +10,16 @@ use Rattle.table.specs.declared.Table.{Table}
 use Rattle.table.specs.Table.{queues}
 use Rattle.table.specs.Compute.{runner}
 use Rattle.table.specs.code.Tracks.{Known}
-use Rattle.refusals.specs.declared.Record.{Record}
-use Rattle.refusals.specs.Refusals.{refusals, lowest}
 use Rattle.soundness.specs.declared.check.Checked.{Checked}
 use Rattle.soundness.specs.Checked.{Checked-right}
 use Rattle.soundness.proofs.Found.{sound-is}
-use Rattle.events.specs.declared.finish.Outcome.{Outcome}
+use Rattle.refusals.specs.declared.Record.{Record}
+use Rattle.refusals.specs.Refusals.{refusals, lowest}
 use Rattle.events.specs.Events.{heir, event-of}
 use Rattle.events.proofs.accepted.Named.{named-same}
-use Rattle.events.specs.code.Work.{Carried, made-table, with-current}
+use Rattle.events.specs.code.Work.{with-current}
+use Rattle.apply.specs.declared.finish.Outcome.{Outcome}
+use Rattle.apply.specs.Accepted.{Carried, made-table}
 use Rattle.locks.specs.declared.Answer.{Answer}
 use Rattle.locks.specs.Answers.{accepted, answerOf}
 use Rattle.locks.specs.code.Judged.{Judged}

@@ -1,5 +1,4 @@
--- What the calls answer.
+-- What the step answers.
 pub mod Answers
-pub mod Queries
 -- What only the code and its proofs speak of.
 pub mod code

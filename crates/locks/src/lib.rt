@@ -1,6 +1,5 @@
-// The calls: the by-value step and the three queries. See specs/ for what each answers.
+// The by-value step. See specs/ for what it answers.
 mod judge;
-pub mod queries;
 pub mod step;
 
 pub use refusals::Record;

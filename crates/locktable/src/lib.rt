@@ -2,17 +2,17 @@
 // back. Exported for C; include/locktable.h declares them.
 ghost use mathlib.Core.Path.{_≡_};
 ghost use Rattle.table.specs.Table.{empty};
+ghost use Rattle.queries.specs.Queries.{running-answer, thread-answer, resource-answer};
 ghost use Rattle.locks.specs.Answers.{answerOf};
-ghost use Rattle.locks.specs.Queries.{running-answer, thread-answer, resource-answer};
 use locks::Answer;
 use locks::Record;
-use locks::queries::ResourceAnswer;
-use locks::queries::RunningAnswer;
-use locks::queries::ThreadAnswer;
-use locks::queries::resource_of;
-use locks::queries::running_of;
-use locks::queries::thread_of;
 use locks::step::step;
+use queries::ResourceAnswer;
+use queries::RunningAnswer;
+use queries::ThreadAnswer;
+use queries::resource_of;
+use queries::running_of;
+use queries::thread_of;
 use table::Table;
 
 // An event: the lent table is the step's afterwards.

@@ -22,8 +22,8 @@ use Rattle.table.proofs.sound.Order.{zero-beyond, rows-orderly, sound-orderly, 
 use Rattle.table.proofs.sound.Read.{sound-good}
 use Rattle.table.proofs.values.Values.{bare-good}
 use Rattle.slots.specs.Slots.{Slot-right, Slots-right, Times-differ}
-use Rattle.soundness.specs.code.Queues.{Rows-right}
-use Rattle.soundness.proofs.queues.Rules.{bare-rows, rows-right, rows-one-queue}
+use Rattle.queues.specs.Queues.{Rows-right}
+use Rattle.soundness.proofs.Rules.{bare-rows, rows-right, rows-one-queue}
 use Rattle.soundness.proofs.Law.{Numbered, Lawful-at, law-numbers, dead-law}
 
 -- what the parts of the test find, but for the law

@@ -20,10 +20,10 @@ use Rattle.table.proofs.sound.Read.{if-live, if-dead, current-stored}
 use Rattle.table.proofs.values.Numbers.{≤-total, slot-live, slot-dead}
 use Rattle.chains.specs.Law.{Compared}
 use Rattle.chains.proofs.ways.Climbs.{Graphed, graphed-waits, graphed-holders}
+use Rattle.queues.specs.Queues.{Surveyed}
 use Rattle.soundness.specs.declared.check.Checked.{Checked}
 use Rattle.soundness.specs.Checked.{Checked-right}
-use Rattle.soundness.specs.code.Queues.{Surveyed}
-use Rattle.soundness.proofs.queues.Rules.{surveyed-graphed}
+use Rattle.soundness.proofs.Rules.{surveyed-graphed}
 use Rattle.soundness.proofs.Bounded.{bounded}
 use Rattle.soundness.proofs.Law.{Numbered}
 use Rattle.soundness.proofs.Passed.{Passed, passed-bare, sound-passed, passed-sound, sound-lawful}

@@ -17,7 +17,7 @@ use Rattle.refusals.proofs.given.Exactly.{exactly, given-none}
 use Rattle.refusals.proofs.given.Passed.{kind-known, thread-small, resource-small, table-sound, clock-early, is-new, is-running, is-chainless, is-holding, is-empty-handed}
 use Rattle.events.specs.Events.{heir, named, event-of}
 use Rattle.events.specs.code.Permits.{Permits, create, exit, set, request, release}
-use Rattle.events.proofs.heir.Heir.{heir-follows}
+use Rattle.events.proofs.Heir.{heir-follows}
 use Rattle.events.proofs.accepted.Named.{names-create, names-exit, names-set, names-request, names-release}
 
 module _ (t : Table) (e : Record) (shape : Shape t) (z : lowest (refusals t e) ≡ 0) where

@@ -7,13 +7,13 @@ use native.Mathlib.Omega.{arith}
 use borrow.Author.Needs.{needs}
 use Rattle.table.specs.Table.{at, queues}
 use Rattle.table.specs.code.Shape.{Shape}
-use Rattle.refusals.specs.Refusals.{refusals, lowest}
 use Rattle.soundness.specs.Checked.{Checked-right}
+use Rattle.refusals.specs.Refusals.{refusals, lowest}
 use Rattle.events.specs.Events.{heir}
 use Rattle.events.specs.code.Rows.{next-at}
-use Rattle.events.specs.code.Work.{Accepted}
-use Rattle.events.proofs.heir.Heir.{heir-follows}
+use Rattle.events.proofs.Heir.{heir-follows}
 use Rattle.events.proofs.accepted.Permitted.{early, low}
+use Rattle.apply.specs.Accepted.{Accepted}
 use Rattle.locks.specs.code.Judged.{Judged}
 use Rattle.locks.proofs.Stepped.{judged-unsound, stepped}
 use Rattle.locks.proofs.step.step.Statement.{statement}

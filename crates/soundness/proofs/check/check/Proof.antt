@@ -9,9 +9,9 @@ use borrow.Author.Tests.{lt-ltb}
 use Rattle.table.proofs.tests.Reflect.{Tells}
 use Rattle.chains.specs.Ways.{here, Ends-from}
 use Rattle.slots.specs.Slots.{Slots-right, Times-differ}
-use Rattle.soundness.specs.code.Queues.{Surveyed}
-use Rattle.soundness.proofs.queues.Turns.{waits-nowhere}
-use Rattle.soundness.proofs.queues.Rules.{surveyed-ends}
+use Rattle.queues.specs.Queues.{Surveyed}
+use Rattle.queues.proofs.survey.Turns.{waits-nowhere}
+use Rattle.soundness.proofs.Rules.{surveyed-ends}
 use Rattle.soundness.proofs.Verdict.{fails, decides}
 use borrow.Author.Needs.{needs}
 use Rattle.soundness.proofs.check.check.Statement.{statement}

@@ -1,0 +1,3 @@
+-- Laws of the end of an event.
+mod Stored
+mod Work

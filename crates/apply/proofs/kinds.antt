@@ -1,0 +1,2 @@
+-- Laws of the dispatch by kind.
+mod Arms

@@ -1,0 +1,2 @@
+-- Laws of Create, Exit and Set.
+mod Work

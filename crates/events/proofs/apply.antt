@@ -1,2 +1,0 @@
--- Laws of the dispatch by kind.
-pub mod Arms

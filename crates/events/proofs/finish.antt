@@ -1,3 +1,0 @@
--- Laws of the end of an event.
-pub mod Stored
-pub mod Work

@@ -1,4 +1,0 @@
--- Who follows at a V.
-pub mod Heir
-pub mod Place
-pub mod Found

@@ -1,2 +1,0 @@
--- Laws of Create, Exit and Set.
-pub mod Work

@@ -1,0 +1,2 @@
+-- What the queries read off a sound table.
+pub mod Told

@@ -1,0 +1,2 @@
+-- What the queries answer.
+pub mod Queries

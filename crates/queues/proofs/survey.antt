@@ -1,0 +1,3 @@
+-- What each part of the survey learns.
+mod Sums
+pub mod Turns

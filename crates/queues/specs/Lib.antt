@@ -1,0 +1,2 @@
+-- What a table's queues keep to, place by place, and what they say.
+pub mod Queues

@@ -1,0 +1,3 @@
+-- Who follows at a V.
+mod Place
+mod Found

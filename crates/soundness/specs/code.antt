@@ -1,2 +1,0 @@
--- What the parts of the test for soundness decide, place by place.
-pub mod Queues
