@@ -1,6 +1,6 @@
 -- The values that the demands speak of are the ones that the calls' own types hold, no more and no fewer: `GoodsP` is what a contract's types say of the arguments. Assumes nothing.
 use Prim.Native.Nat.{ℕ, zero, suc, _^_, _≤_, _<_}
-use mathlib.Core.Path.{refl, sym, _∙_}
+use mathlib.Core.Path.{refl, _∙_}
 use mathlib.Core.Logic.{_↔_}
 use mathlib.Core.List.{List, [], _∷_, map}
 use native.Mathlib.Omega.{arith}
@@ -16,6 +16,7 @@ use denote.Struct.Laws.{vals, owes, owed}
 use borrow.Fn.Kinds.{GoodsP}
 use Rattle.table.specs.declared.Table.{Table}
 use Rattle.table.specs.Table.{at}
+use Rattle.table.proofs.sound.Typed.{typed-size}
 use Rattle.table.proofs.Table as table
 use Rattle.table.proofs.Table.Laws as table-laws
 use Rattle.refusals.specs.declared.Record.{Record}
@@ -44,7 +45,7 @@ module _ (w : Width) (highest : ℕ) (fits : (x : ℕ) → (x < 2 ^ bits w) ↔ 
   -- what its type says is `Array`
   array : (n : ℕ) (xs : List ℕ) → Is (value.Array (UInt w) n) (map (λ (x : ℕ). x) xs) (value.arrayVal (map (vint w) (map (λ (x : ℕ). x) xs)) ∷ []) ↔ Array n highest xs
   array n xs = (
-    λ p. record { size = sym (length-map xs (λ (x : ℕ). x)) ∙ p .1 .0 .1; in-range = in-range xs (p .0) (p .1 .1) },
+    λ p. record { size = typed-size w n xs p; in-range = in-range xs (p .0) (p .1 .1) },
     λ a. (map (vint w) (map (λ (x : ℕ). x) xs), ((refl, length-map xs (λ (x : ℕ). x) ∙ a .size), in-memory xs (a .in-range))),
   )
 

@@ -6,6 +6,7 @@ use borrow.Author.Needs.{needs}
 use borrow.Author.Tests.{not-false, lt-ltb, le-ltb, eq-eqb, ne-eqb}
 use Rattle.table.specs.Table.{at}
 use Rattle.table.specs.Compute.{is-live}
+use Rattle.table.proofs.sound.Typed.{typed-shape}
 use Rattle.table.proofs.sound.Read.{current-stored}
 use Rattle.soundness.specs.Checked.{Checked-right}
 use Rattle.soundness.proofs.Found.{found-unsound, found-sound}
@@ -20,16 +21,7 @@ start c = c .before .before .before .before .before .before .before .before .bef
 
 -- what the test hands on; a table by value has the sizes of its arrays by its type
 checked : (c : tie.After-check) → Checked-right (start c .args .t1) (c .check .result)
-checked c =
-    c .check .ensures (record {
-      live-size = search needs;
-      priority-size = search needs;
-      time-size = search needs;
-      current-priority-size = search needs;
-      current-time-size = search needs;
-      queue-size = search needs;
-      length-size = search needs;
-    })
+checked c = c .check .ensures (typed-shape _ (start c .good .0))
 
 check-requires : tie.Need-check-requires
 check-requires c κs = search needs

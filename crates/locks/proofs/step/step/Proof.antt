@@ -7,6 +7,7 @@ use native.Mathlib.Omega.{arith}
 use borrow.Author.Needs.{needs}
 use Rattle.table.specs.Table.{at, queues}
 use Rattle.table.specs.code.Shape.{Shape}
+use Rattle.table.proofs.sound.Typed.{typed-shape}
 use Rattle.soundness.specs.Checked.{Checked-right}
 use Rattle.refusals.specs.Refusals.{refusals, lowest}
 use Rattle.events.specs.Events.{heir}
@@ -28,15 +29,7 @@ judging c = c .before .before
 
 -- a table by value has the sizes of its arrays by its type
 shape : (c : tie.Start) → Shape (c .args .t1)
-shape c = record {
-  live-size = search needs;
-  priority-size = search needs;
-  time-size = search needs;
-  current-priority-size = search needs;
-  current-time-size = search needs;
-  queue-size = search needs;
-  length-size = search needs;
-}
+shape c = typed-shape _ (c .good .0)
 
 -- what the test hands on
 checked : (c : tie.Joined1) → Checked-right (entry c .args .t1) (c .before .before .before .check .result)
