@@ -12,8 +12,9 @@
  *
  * What this file says of the calls is proved, for every table and every argument: in crates/locktable/src/lib.rt that a call does to the lent table
  * what the function does that has it by value; in crates/locks/src/step.rt and crates/queries/src/lib.rt what that function answers and makes of
- * the table, in the terms that the specs of crates locks, queries, events, refusals and table define; in crates/events/proofs that an accepted
- * event leaves a sound table (kept/Stays.antt) and that a count is at most 16 (walk/Sixteen.antt). What a caller needs, above, and the layout,
+ * the table, in the terms that the specs of crates locks, queries, events, refusals and table define; in crates/demands that this is the paper's
+ * protocol, and what every call leaves on any table (specs/Fixed.antt): that an accepted event leaves a sound table, and that a count is at most 16,
+ * are there too. What a caller needs, above, and the layout,
  * below, are not proved. */
 #ifndef LOCKTABLE_H
 #define LOCKTABLE_H

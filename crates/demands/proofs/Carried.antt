@@ -12,7 +12,8 @@ use Rattle.protocol.specs.Events.{Thread, Priority, Resource, Event, Create, Ex
 use Rattle.protocol.specs.Schedule.{wq, update, release as leave}
 use Rattle.table.specs.declared.Table.{Table}
 use Rattle.table.specs.declared.Slot.{Slot}
-use Rattle.table.specs.Table.{queues, slot, dead-slot, fresh-slot, set-slot}
+use Rattle.table.specs.Table.{queues, slot, dead-slot}
+use Rattle.table.specs.Slots.{fresh-slot, set-slot}
 use Rattle.table.proofs.values.Values.{Good, thread-low}
 use Rattle.events.specs.Events.{settled, later, with-slot, with-queue, changed}
 use Rattle.events.specs.code.Permits.{Permits, create, exit, set, request, release}

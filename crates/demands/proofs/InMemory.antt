@@ -17,7 +17,7 @@ use Rattle.table.proofs.sound.Order.{time-fits}
 use Rattle.table.proofs.sound.Read.{sound-good, current-stored}
 use Rattle.table.proofs.values.Values.{current-low}
 use Rattle.events.proofs.kept.Stays.{Right}
-use Rattle.demands.specs.Calls.{Any-table}
+use Rattle.demands.specs.Memory.{Any-table}
 
 module _ (t : Table) (r : Right t) where
   -- what a live thread stores is some live thread's own precedence, and the others store zeros

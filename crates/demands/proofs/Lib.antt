@@ -1,6 +1,6 @@
 -- The edges that document 01 marks.
 pub mod Examples
--- What any records lead to, from the bottom up.
+-- What any calls lead to, from the bottom up.
 pub mod Agrees
 pub mod Same
 pub mod Queries
@@ -10,11 +10,22 @@ pub mod Rules
 pub mod InMemory
 pub mod Numbers
 pub mod Reached
--- The demands, and how much each call's statement says.
+pub mod Counted
+-- The demands, of any functions that do what the contracts say; and that there are such.
 pub mod Demand1
 pub mod Demand2
 pub mod Demand3
-pub mod Unique
--- That the demands speak of what the calls take, and of functions that there are.
-pub mod Types
 pub mod TheCalls
+-- That the demands speak of the calls' own contracts, and of what these take.
+pub mod Contracts
+pub mod Types
+-- How much the statements say.
+pub mod Unique
+pub mod Wrong
+pub mod OneTable
+pub mod OneNumber
+pub mod AnyTable
+pub mod NothingFree
+-- Demand 3 on an example.
+pub mod Played
+pub mod Witness

@@ -10,10 +10,17 @@ use Rattle.refusals.specs.declared.Record.{Record}
 use Rattle.refusals.specs.Refusals.{refusals, lowest}
 use Rattle.events.specs.Events.{event-of}
 use Rattle.events.proofs.kept.Stays.{Right}
+use Rattle.locks.specs.declared.Answer.{Answer}
 use Rattle.locks.specs.declared.Done.{Done}
 use Rattle.locks.specs.Answers.{accepted, refused, carried-out, answerOf}
 use Rattle.locks.proofs.Answered.{refused-is, refused-runs}
-use Rattle.demands.specs.Calls.{Any-table, Any-record, Calls, As-stated}
+use Rattle.demands.specs.Memory.{Any-table, Any-record}
+use Rattle.demands.specs.Calls.{Left, Calls}
+use Rattle.demands.specs.Stated.{As-stated}
+
+-- what is left is told by its two parts
+pub left-is : {A : Type 0} {x : A} {u : Table} (l : Left A) → (l .answer ≡ x) × (l .table ≡ u) → l ≡ record { answer = x; table = u }
+left-is l p = λ i. record { answer = p .0 i; table = p .1 i }
 
 -- what is carried out gets 0, and names the running thread of the table afterwards
 carried-0 : (t : Table) (o : Option Event) → carried-out t o .answer .number ≡ 0
@@ -38,7 +45,7 @@ module _ (t : Table) (e : Record) where
   done z = rw z
 
   -- the number is the lowest that applies
-  number-is : answerOf t e .answer .number ≡ lowest (refusals t e)
+  pub number-is : answerOf t e .answer .number ≡ lowest (refusals t e)
   unfolding refused
   number-is = by-cases (ℕ-discrete (lowest (refusals t e)) 0)
       (λ z. ap (λ (d : Done). d .answer .number) (done z) ∙ carried-0 t (event-of t e) ∙ sym z)
@@ -52,4 +59,4 @@ module _ (t : Table) (e : Record) where
 
 -- the number that a step gives which does what the contract says
 pub stated-number : (c : Calls) → As-stated c → (t : Table) (e : Record) → Any-table t → Any-record e → c .step t e .answer .number ≡ lowest (refusals t e)
-stated-number c is t e a b = ap (λ (d : Done). d .answer .number) (is .step t e a b tt) ∙ number-is t e
+stated-number c is t e a b = ap (λ (r : Answer). r .number) (is .step t e a b .0) ∙ number-is t e

@@ -2,15 +2,15 @@
 use Prim.Native.Nat.{ℕ, _<_}
 use mathlib.Core.Path.{_≡_, refl, sym, ap, subst}
 use mathlib.Core.Bool.{true, false}
-use mathlib.Core.Logic.{_⊎_, inl, inr}
+use mathlib.Core.Logic.{inl, inr}
 use mathlib.Core.List.{List, [], _∷_}
 use native.Mathlib.Omega.{arith}
 use borrow.Author.Tests.{not-true, lt-ltb, le-ltb}
 use lib.ListN.{length}
-use Rattle.protocol.specs.Sets.{_∈_, set}
+use Rattle.protocol.specs.Sets.{_∈_, set, Names}
 use Rattle.protocol.specs.Events.{Thread, Resource, State, threads}
 use Rattle.protocol.specs.Graph.{waits}
-use Rattle.protocol.specs.Schedule.{wq, cprec}
+use Rattle.protocol.specs.Schedule.{wq, holds, cprec}
 use Rattle.protocol.proofs.Lists.{Holding}
 use Rattle.table.specs.declared.Table.{Table}
 use Rattle.table.specs.Table.{live}
@@ -24,9 +24,9 @@ use Rattle.refusals.specs.Refusals.{unsound, lowest}
 use Rattle.events.proofs.kept.Stays.{Right}
 use Rattle.queries.specs.Queries.{running-refusals, running-answer, thread-refusals, thread-refused, thread-told as thread-table, thread-answer, resource-refusals, resource-refused, resource-told as resource-table, resource-answer}
 use Rattle.queries.proofs.Told.{waiters-are}
-use Rattle.demands.specs.Told.{Running-told, Names-waited, Thread-told, Names-holder, Resource-told}
+use Rattle.demands.specs.Told.{Running-told, Thread-told, Resource-told}
 use Rattle.demands.proofs.Agrees.{Reached, good, ordered, same-queues}
-use Rattle.demands.proofs.Same.{names-running, shows}
+use Rattle.demands.proofs.Same.{names-running, ids, shows}
 
 module _ (t : Table) (right : Right t) where
   -- the test passes a sound table
@@ -78,20 +78,20 @@ module _ (t : Table) where
   resource-unsound cs f = rw f
 
 -- the first of a queue of threads is its head; 32 stands for that of an empty one
-first-names : (q : List ℕ) → ((x : ℕ) → x ∈ set q → x < 32) → ((first-or-32 q < 32) × Holding q (first-or-32 q)) ⊎ ((first-or-32 q ≡ 32) × (q ≡ []))
+first-names : (q : List ℕ) → ((x : ℕ) → x ∈ set q → x < 32) → Names 32 (Holding q) (first-or-32 q)
 unfolding first-or-32
-first-names [] low = inr (refl, refl)
+first-names [] low = inr (refl, λ x h. h .0)
 first-names (x ∷ xs) low = inl (low x (inl refl), (inl refl, refl))
 
 module _ {t : Table} {s : State} (r : Reached t s) where
   -- `waits-for` names what a thread waits for in the state
-  names-waited : (th : Thread) → Names-waited s th (waits-for t th)
-  names-waited th = same-queues r (λ q. ((waits-for t th < 16) × waits q th (waits-for t th)) ⊎ ((waits-for t th ≡ 16) × ((cs : Resource) → ¬ waits q th cs))) .0 (waited t (good r) th)
+  names-waited : (th : Thread) → Names 16 (λ cs. waits (wq s) th cs) (waits-for t th)
+  names-waited th = same-queues r (λ q. Names 16 (λ cs. waits q th cs) (waits-for t th)) .0 (waited t (good r) th)
 
   -- `holder` names the holder in the state
-  names-holder : (cs : Resource) → Names-holder s cs (holder t cs)
+  names-holder : (cs : Resource) → Names 32 (λ th. holds s th cs) (holder t cs)
   unfolding holder
-  names-holder cs = rw (shows r .queues cs) (first-names (wq s cs) (λ x i. shows r .ids x (ordered r .entries cs x i)))
+  names-holder cs = rw (shows r .queues-are cs) (first-names (wq s cs) (λ x i. ids r x (ordered r .entries cs x i)))
 
   -- the running query names the running thread
   pub running-told : Running-told s (running-answer t)
@@ -102,21 +102,17 @@ module _ {t : Table} {s : State} (r : Reached t s) where
   unfolding thread-table
   thread-told th l = let here = r .agrees .live th .1 l in rw (thread-is t (r .right) th here) (record {
     accepted = refl;
-    priority = shows r .priority th l;
-    time = shows r .time th l;
-    current = subst (cprec s th) (sym (current-stored t (r .right .0) (r .right .1) th here)) (shows r .current th l);
-    waiting = names-waited th;
+    priority-is = shows r .priority-is th l;
+    time-is = shows r .time-is th l;
+    current-is = subst (cprec s th) (sym (current-stored t (r .right .0) (r .right .1) th here)) (shows r .current-is th l);
+    waits-for = names-waited th;
   })
-
-  -- it refuses a thread that isn't live
-  pub dead-told : (th : Thread) → th < 32 → ¬ (th ∈ threads s) → thread-answer t th ≡ thread-refused 7
-  dead-told th low dead = thread-dead t (r .right) th low (λ l. dead (r .agrees .live th .0 l))
 
   -- the resource query tells the holder and the number of waiters
   pub resource-told : (cs : Resource) → cs < 16 → Resource-told s cs (resource-answer t cs)
   unfolding resource-table
   resource-told cs low = rw (resource-is t (r .right) cs low) (record {
     accepted = refl;
-    holder = names-holder cs;
-    waiters = omega (arith, waiters-are t (good r) cs low, queue-length t (good r) cs low, ap length (shows r .queues cs));
+    holder-is = names-holder cs;
+    waiters-are = omega (arith, waiters-are t (good r) cs low, queue-length t (good r) cs low, ap length (shows r .queues-are cs));
   })

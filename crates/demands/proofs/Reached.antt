@@ -1,4 +1,4 @@
--- What any records lead to, from the empty table on. Assumes nothing.
+-- What any calls lead to, from the empty table on. Assumes nothing.
 use mathlib.Core.Path.{_≡_, refl, sym, ap, subst, fun-ext, _∙_}
 use mathlib.Core.Option.{some}
 use mathlib.Core.List.{List, [], _∷_}
@@ -13,13 +13,16 @@ use Rattle.refusals.specs.Refusals.{refusals, lowest}
 use Rattle.refusals.proofs.given.Exactly.{exactly, given-none}
 use Rattle.refusals.proofs.given.Passed.{kind-known}
 use Rattle.events.specs.Events.{settled, changed, event-of}
+use Rattle.events.specs.code.Permits.{Permits}
 use Rattle.events.proofs.accepted.Permitted.{early, permitted}
 use Rattle.events.proofs.kept.Stays.{stays-right}
 use Rattle.locks.specs.declared.Done.{Done}
 use Rattle.locks.specs.Answers.{accepted as done, answerOf}
 use Rattle.locks.proofs.Answered.{let-through}
-use Rattle.demands.specs.Calls.{Any-record, Calls, As-stated}
-use Rattle.demands.specs.Runs.{table-after, number-of, Any-records, Writes, History, none-yet, accepted, refused}
+use Rattle.demands.specs.Memory.{Any-table, Any-record}
+use Rattle.demands.specs.Calls.{Calls}
+use Rattle.demands.specs.Stated.{As-stated}
+use Rattle.demands.specs.Runs.{Query, running, thread, resource, Call, event, ask, Any-call, Any-calls, table-after, number-of, Writes, History, none-yet, accepted, refused, asked}
 use Rattle.demands.proofs.Agrees.{Reached, good}
 use Rattle.demands.proofs.InMemory.{right-any}
 use Rattle.demands.proofs.Numbers.{stated-number, kept}
@@ -36,49 +39,62 @@ start-reached = record {
 }
 
 -- a record that is not refused leads on, by the event that it names
-accepted-reached : {t : Table} {s : State} → Reached t s → (e : Record) → Any-record e → lowest (refusals t e) ≡ 0 →
-    (ev : Event) × (event-of t e ≡ some ev) × Writes s e ev × Reached (settled (changed t ev)) (ev ∷ s)
+pub accepted-reached : {t : Table} {s : State} → Reached t s → (e : Record) → Any-record e → lowest (refusals t e) ≡ 0 →
+    (ev : Event) × (event-of t e ≡ some ev) × Permits t ev × Writes s e ev × Reached (settled (changed t ev)) (ev ∷ s)
 accepted-reached {t} r e any z =
     let shape = r .right .0 in
     let p = permitted t e shape z (any .argument) in
     let known = kind-known (given-none t e (lowest (refusals t e)) (exactly t e shape) z) in
-    (p .0, p .1, named-writes r known (p .1), record { right = stays-right t (r .right) (early t e shape z) (p .2); agrees = carried (r .agrees) (good r) (p .2); by-rules = after (r .by-rules) (permits-steps r (p .2)) })
+    (p .0, p .1, p .2, named-writes r known (p .1), record { right = stays-right t (r .right) (early t e shape z) (p .2); agrees = carried (r .agrees) (good r) (p .2); by-rules = after (r .by-rules) (permits-steps r (p .2)) })
 
-module _ (c : Calls) (is : As-stated c) where
-  -- the step's answer on a table that is reached
-  pub answers : {t : Table} {s : State} → Reached t s → (e : Record) → Any-record e → c .step t e ≡ answerOf t e
-  answers {t} r e any = is .step t e (right-any t (r .right)) any tt
+-- a table that is left as it was is reached as it was
+kept-reached : {t u : Table} {s : State} → u ≡ t → Reached t s → Reached u s
+kept-reached {s = s} same = subst (λ (x : Table). Reached x s) (sym same)
 
+module _ (c : Calls) (is : As-stated c) (t₀ : Table) (any-t₀ : Any-table t₀) where
   -- one record more
-  one-more : (es : List Record) (s : State) → History c es s → Reached (table-after c es) s → (e : Record) → Any-record e → (s′ : State) × History c (e ∷ es) s′ × Reached (table-after c (e ∷ es)) s′
+  one-more : (ks : List Call) (s : State) → History c t₀ ks s → Reached (table-after c t₀ ks) s → (e : Record) → Any-record e → (s′ : State) × History c t₀ (event e ∷ ks) s′ × Reached (table-after c t₀ (event e ∷ ks)) s′
   unfolding done
-  one-more es s h r e any = go (ℕ-discrete (lowest (refusals t e)) 0)
+  one-more ks s h r e any = go (ℕ-discrete (lowest (refusals t e)) 0)
     where
       t : Table
-      t = table-after c es
+      t = table-after c t₀ ks
 
-      number : number-of c es e ≡ lowest (refusals t e)
-      number = stated-number c is t e (right-any t (r .right)) any
+      memory : Any-table t
+      memory = right-any t (r .right)
 
-      go : Dec (lowest (refusals t e) ≡ 0) → (s′ : State) × History c (e ∷ es) s′ × Reached (c .step t e .table) s′
-      go (yes z) = let w = accepted-reached r e any z in
-          (w .0 ∷ s, accepted h (number ∙ z) (w .2), subst (λ (d : Done). Reached (d .table) (w .0 ∷ s)) (sym (answers r e any ∙ let-through t e z (w .1))) (w .3))
-      go (no n) = (s, refused h (λ z. n (sym number ∙ z)), subst (λ (u : Table). Reached u s) (sym (ap (λ (d : Done). d .table) (answers r e any) ∙ kept t e n)) r)
+      number : number-of c t₀ ks e ≡ lowest (refusals t e)
+      number = stated-number c is t e memory any
 
-  -- any records
-  pub reached : (es : List Record) → Any-records es → (s : State) × History c es s × Reached (table-after c es) s
-  reached [] any = ([], none-yet, start-reached)
-  reached (e ∷ es) any = let w = reached es (any .1) in one-more es (w .0) (w .1) (w .2) e (any .0)
+      left : c .step t e .table ≡ answerOf t e .table
+      left = is .step t e memory any .1
+
+      go : Dec (lowest (refusals t e) ≡ 0) → (s′ : State) × History c t₀ (event e ∷ ks) s′ × Reached (c .step t e .table) s′
+      go (yes z) = let w = accepted-reached r e any z in (w .0 ∷ s, accepted h (number ∙ z) (w .3), kept-reached (left ∙ ap (λ (d : Done). d .table) (let-through t e z (w .1))) (w .4))
+      go (no n) = (s, refused h (λ z. n (sym number ∙ z)), kept-reached (left ∙ kept t e n) r)
+
+  -- one query more
+  one-query : (ks : List Call) (s : State) → Reached (table-after c t₀ ks) s → (q : Query) → Any-call (ask q) → Reached (table-after c t₀ (ask q ∷ ks)) s
+  one-query ks s r running any = kept-reached (is .running (table-after c t₀ ks) (right-any _ (r .right)) .1) r
+  one-query ks s r (thread th) any = kept-reached (is .thread (table-after c t₀ ks) th (right-any _ (r .right)) any .1) r
+  one-query ks s r (resource cs) any = kept-reached (is .resource (table-after c t₀ ks) cs (right-any _ (r .right)) any .1) r
+
+  -- any calls
+  pub reached : (ks : List Call) → Any-calls ks → (s : State) × History c t₀ ks s × Reached (table-after c t₀ ks) s
+  reached [] any = ([], none-yet, kept-reached (is .empty t₀ any-t₀) start-reached)
+  reached (event e ∷ ks) any = let w = reached ks (any .1) in one-more ks (w .0) (w .1) (w .2) e (any .0)
+  reached (ask q ∷ ks) any = let w = reached ks (any .1) in (w .0, asked (w .1), one-query ks (w .0) (w .2) q (any .0))
 
   -- the accepted events are determined
-  pub history-one : (es : List Record) → Any-records es → {s s′ : State} → History c es s → History c es s′ → s′ ≡ s
+  pub history-one : (ks : List Call) → Any-calls ks → {s s′ : State} → History c t₀ ks s → History c t₀ ks s′ → s′ ≡ s
   history-one [] any none-yet none-yet = refl
-  history-one (e ∷ es) any (accepted {s = s} {ev = ev} h z w) (accepted {s = s′} {ev = ev′} h′ z′ w′) =
-      let r = reached es (any .1) in
-      let p : s ≡ r .0 = history-one es (any .1) (r .1) h in
-      let p′ : s′ ≡ r .0 = history-one es (any .1) (r .1) h′ in
+  history-one (event e ∷ ks) any (accepted {s = s} {ev = ev} h z w) (accepted {s = s′} {ev = ev′} h′ z′ w′) =
+      let r = reached ks (any .1) in
+      let p : s ≡ r .0 = history-one ks (any .1) (r .1) h in
+      let p′ : s′ ≡ r .0 = history-one ks (any .1) (r .1) h′ in
       let q : ev′ ≡ ev = writes-one (r .2) (rw p′ at w′) (rw p at w) in
       cc
-  history-one (e ∷ es) any (accepted h z w) (refused h′ n) = absurd (n z)
-  history-one (e ∷ es) any (refused h n) (accepted h′ z w) = absurd (n z)
-  history-one (e ∷ es) any (refused h n) (refused h′ n′) = history-one es (any .1) h h′
+  history-one (event e ∷ ks) any (accepted h z w) (refused h′ n) = absurd (n z)
+  history-one (event e ∷ ks) any (refused h n) (accepted h′ z w) = absurd (n z)
+  history-one (event e ∷ ks) any (refused h n) (refused h′ n′) = history-one ks (any .1) h h′
+  history-one (ask q ∷ ks) any (asked h) (asked h′) = history-one ks (any .1) h h′

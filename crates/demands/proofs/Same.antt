@@ -1,10 +1,8 @@
 -- A table that agrees with a state says of it what the paper's definitions say. Assumes nothing.
-use Prim.Native.Nat.{ℕ, _≤_}
+use Prim.Native.Nat.{ℕ, _<_}
 use mathlib.Core.Path.{_≡_, sym, ap, _∙_}
 use mathlib.Core.Logic.{inl, inr, _↔_}
-use mathlib.Core.List.{[]}
-use native.Mathlib.Omega.{arith}
-use Rattle.protocol.specs.Sets.{SetOf, _∈_, only, _∪_, image, images, Highest}
+use Rattle.protocol.specs.Sets.{SetOf, _∈_, only, _∪_, image, images, Highest, Names}
 use Rattle.protocol.specs.Events.{Thread, Resource, State, threads, Precedence, prec, _≼_}
 use Rattle.protocol.specs.Graph.{Queues, waits, dependants, cprec}
 use Rattle.protocol.specs.Schedule as paper
@@ -15,9 +13,8 @@ use Rattle.protocol.proofs.Current.{dependant-live}
 use Rattle.protocol.proofs.Finite.{orderly}
 use Rattle.table.specs.declared.Table.{Table}
 use Rattle.table.specs.Table as table
-use Rattle.table.proofs.arrays.Bounds.{beyond}
 use Rattle.table.proofs.sound.Queues.{live-low}
-use Rattle.demands.specs.Told.{Shows, Names-running}
+use Rattle.demands.specs.Told.{Shows}
 use Rattle.demands.proofs.Agrees.{Reached, ordered, same-queues}
 
 -- own precedences that are the same for a thread and its dependants make the same current precedence
@@ -50,11 +47,11 @@ highest-map R Q M N same value th h = record {
 
 module _ {t : Table} {s : State} (r : Reached t s) where
   -- who depends on a thread is live, so its own precedence agrees
-  behind-own : (th u : Thread) → u ∈ paper.dependants s th → table.own t u ≡ prec u s
+  behind-own : (th u : Thread) → u ∈ dependants (paper.wq s) th → table.own t u ≡ prec u s
   behind-own th u d = r .agrees .own u (dependant-live (orderly s (ordered r)) (leads (paper.wq s) d))
 
   -- a live thread has the same current precedence
-  same-cprec : (th : Thread) → th ∈ threads s → (m : Precedence) → table.cprec t th m ↔ paper.cprec s th m
+  pub same-cprec : (th : Thread) → th ∈ threads s → (m : Precedence) → table.cprec t th m ↔ paper.cprec s th m
   same-cprec th l m = (
     λ h. own-cprec (paper.wq s) (table.own t) (λ u. prec u s) th (r .agrees .own th l) (behind-own th) m (over .0 h),
     λ h. over .1 (own-cprec (paper.wq s) (λ u. prec u s) (table.own t) th (sym (r .agrees .own th l)) (λ u d. sym (behind-own th u d)) m h),
@@ -75,25 +72,21 @@ module _ {t : Table} {s : State} (r : Reached t s) where
   )
 
   -- who is named as running in the table is named as running in the state
-  pub names-running : (x : ℕ) → table.Runner t x → Names-running s x
+  pub names-running : (x : ℕ) → Names 32 (table.running t) x → Names 32 (paper.running s) x
   names-running x (inl (low, run)) = inl (low, same-running x .0 run)
   names-running x (inr (e, nobody)) = inr (e, λ th run. nobody th (same-running th .1 run))
 
-  -- only the sixteen resources have a queue
-  no-queue : (cs : Resource) → 16 ≤ cs → table.queues t cs ≡ []
-  no-queue cs h = rw (beyond (t .length) cs (omega (arith, r .right .0 .length-size)))
+  -- there are no live threads but the 32
+  pub ids : (th : Thread) → th ∈ threads s → th < 32
+  ids th l = live-low t (r .right .0) th (r .agrees .live th .1 l)
 
   -- a sound table shows the state
   pub shows : Shows t s
   shows = record {
-    clock = r .agrees .clock;
-    clock-end = omega (arith, r .agrees .clock, r .right .1 .bare .clock);
-    live = r .agrees .live;
-    ids = λ th l. live-low t (r .right .0) th (r .agrees .live th .1 l);
-    priority = λ th l. ap (λ (p : Precedence). p .0) (r .agrees .own th l);
-    time = λ th l. ap (λ (p : Precedence). p .1) (r .agrees .own th l);
-    queues = λ cs. ap (λ (q : Queues). q cs) (r .agrees .queues);
-    resources = λ cs h. same-queues r (λ q. q cs ≡ []) .0 (no-queue cs h);
-    current = λ th l. same-cprec th l (table.stored t th) .0 (r .right .1 .current th (r .agrees .live th .1 l));
-    dead = λ th n. (r .right .1 .bare .dead-slots th (λ l. n (r .agrees .live th .0 l)), r .right .1 .dead-stored th (λ l. n (r .agrees .live th .0 l)));
+    clock-is = r .agrees .clock;
+    live-are = r .agrees .live;
+    priority-is = λ th l. ap (λ (p : Precedence). p .0) (r .agrees .own th l);
+    time-is = λ th l. ap (λ (p : Precedence). p .1) (r .agrees .own th l);
+    queues-are = λ cs. ap (λ (q : Queues). q cs) (r .agrees .queues);
+    current-is = λ th l. same-cprec th l (table.stored t th) .0 (r .right .1 .current th (r .agrees .live th .1 l));
   }

@@ -1,19 +1,21 @@
--- The values that the demands speak of are the ones that the calls' own types hold, no more and no fewer: `GoodsP` is what a contract's types say of the arguments. Assumes nothing.
+-- The values that the demands speak of are the ones that the calls' own types hold, no more and no fewer: `Is` is what a type says of a value and its bytes. Assumes nothing.
 use Prim.Native.Nat.{ℕ, zero, suc, _^_, _≤_, _<_}
-use mathlib.Core.Path.{refl, _∙_}
+use mathlib.Core.Path.{_≡_, refl, _∙_}
 use mathlib.Core.Logic.{_↔_}
 use mathlib.Core.List.{List, [], _∷_, map}
 use native.Mathlib.Omega.{arith}
 use lib.ListN.{length-map}
-use mir.Syntax.{Width, w8, w16}
+use mir.Syntax.{Width, w8, w16, named}
 use mir.Val.{Val, vint, bits}
+use base.Fml.{Lft}
 use denote.Shadow.{shadow}
 use denote.Plain.{UInt}
 use denote.Array as value
 use denote.Array.{each}
 use denote.Laws.{Is}
+use denote.Ref.{MutRef, ShrRef}
+use denote.Signature.{typesAt}
 use denote.Struct.Laws.{vals, owes, owed}
-use borrow.Fn.Kinds.{GoodsP}
 use Rattle.table.specs.declared.Table.{Table}
 use Rattle.table.specs.Table.{at}
 use Rattle.table.proofs.sound.Typed.{typed-size}
@@ -22,11 +24,12 @@ use Rattle.table.proofs.Table.Laws as table-laws
 use Rattle.refusals.specs.declared.Record.{Record}
 use Rattle.refusals.proofs.Record as four-bytes
 use Rattle.refusals.proofs.Record.Laws as four-bytes-laws
-use Rattle.queries.proofs.running_of.Kinds as running-of
-use Rattle.queries.proofs.thread_of.Kinds as thread-of
-use Rattle.queries.proofs.resource_of.Kinds as resource-of
-use Rattle.locks.proofs.step.step.Kinds as step
-use Rattle.demands.specs.Calls.{Array, Any-table, Any-record}
+use Rattle.locktable.proofs.locktable_empty as empty
+use Rattle.locktable.proofs.locktable_step as step
+use Rattle.locktable.proofs.locktable_running as running
+use Rattle.locktable.proofs.locktable_thread as thread
+use Rattle.locktable.proofs.locktable_resource as resource
+use Rattle.demands.specs.Memory.{Array, Any-table, Any-record}
 
 -- An array of numbers of one width, of which `highest` is the highest.
 module _ (w : Width) (highest : ℕ) (fits : (x : ℕ) → (x < 2 ^ bits w) ↔ (x ≤ highest)) where
@@ -49,15 +52,15 @@ module _ (w : Width) (highest : ℕ) (fits : (x : ℕ) → (x < 2 ^ bits w) ↔ 
     λ a. (map (vint w) (map (λ (x : ℕ). x) xs), ((refl, length-map xs (λ (x : ℕ). x) ∙ a .size), in-memory xs (a .in-range))),
   )
 
--- a number of one byte, and one of two
-byte : (x : ℕ) → (x < 2 ^ bits w8) ↔ (x ≤ 255)
+-- a number of one byte, as a thread or a resource that is asked for, and one of two
+pub byte : (x : ℕ) → (x < 2 ^ bits w8) ↔ (x ≤ 255)
 byte x = ((λ h. omega arith), (λ h. omega arith))
 
 word : (x : ℕ) → (x < 2 ^ bits w16) ↔ (x ≤ 65535)
 word x = ((λ h. omega arith), (λ h. omega arith))
 
 -- a table that the type holds is any table, and the other way round
-table-is : (t : Table) → Is table.the-row t (vals table.the-type table-laws.the-laws t) ↔ Any-table t
+pub table-is : (t : Table) → Is table.the-row t (vals table.the-type table-laws.the-laws t) ↔ Any-table t
 table-is t = let bytes = array w8 255 byte in let words = array w16 65535 word in (
   λ p. let o = owed table.the-type table-laws.the-laws t _ p in record {
     clock = word (t .clock) .0 (o .0 .1);
@@ -73,7 +76,7 @@ table-is t = let bytes = array w8 255 byte in let words = array w16 65535 word i
 )
 
 -- and so for records
-record-is : (e : Record) → Is four-bytes.the-row e (vals four-bytes.the-type four-bytes-laws.the-laws e) ↔ Any-record e
+pub record-is : (e : Record) → Is four-bytes.the-row e (vals four-bytes.the-type four-bytes-laws.the-laws e) ↔ Any-record e
 record-is e = (
   λ p. let o = owed four-bytes.the-type four-bytes-laws.the-laws e _ p in record {
     kind = byte (e .kind) .0 (o .0 .1);
@@ -84,15 +87,18 @@ record-is e = (
   λ a. owes four-bytes.the-type four-bytes-laws.the-laws e ((refl, byte (e .kind) .1 (a .kind)), ((refl, byte (e .thread) .1 (a .thread)), ((refl, byte (e .argument) .1 (a .argument)), ((refl, byte (e .zero) .1 (a .zero)), tt)))),
 )
 
--- What the contracts' types say of the arguments of the step and of the three queries.
-pub step-takes : (t : Table) (e : Record) → GoodsP {n = 0} tt step.ps (t, (e, tt)) ↔ (Any-table t × Any-record e)
-step-takes t e = ((λ p. (table-is t .0 (p .0), record-is e .0 (p .1 .0))), (λ p. (table-is t .1 (p .0), (record-is e .1 (p .1), tt))))
+-- The types of what the five calls are given: a borrow of a table, κ long, and besides a record or a byte.
+pub empty-takes : (κ : Lft) → typesAt (empty.signature .params) (κ, tt) ≡ MutRef (named 0) κ table.the-row ∷ []
+empty-takes κ = refl
 
-pub running-takes : (t : Table) → GoodsP {n = 0} tt running-of.ps (t, tt) ↔ Any-table t
-running-takes t = ((λ p. table-is t .0 (p .0)), (λ a. (table-is t .1 a, tt)))
+pub step-takes : (κ : Lft) → typesAt (step.signature .params) (κ, tt) ≡ MutRef (named 0) κ table.the-row ∷ (four-bytes.the-row ∷ [])
+step-takes κ = refl
 
-pub thread-takes : (t : Table) (thread : ℕ) → GoodsP {n = 0} tt thread-of.ps (t, (thread, tt)) ↔ (Any-table t × (thread ≤ 255))
-thread-takes t thread = ((λ p. (table-is t .0 (p .0), byte thread .0 (p .1 .0 .1))), (λ p. (table-is t .1 (p .0), ((refl, byte thread .1 (p .1)), tt))))
+pub running-takes : (κ : Lft) → typesAt (running.signature .params) (κ, tt) ≡ ShrRef (named 0) κ table.the-row ∷ []
+running-takes κ = refl
 
-pub resource-takes : (t : Table) (resource : ℕ) → GoodsP {n = 0} tt resource-of.ps (t, (resource, tt)) ↔ (Any-table t × (resource ≤ 255))
-resource-takes t resource = ((λ p. (table-is t .0 (p .0), byte resource .0 (p .1 .0 .1))), (λ p. (table-is t .1 (p .0), ((refl, byte resource .1 (p .1)), tt))))
+pub thread-takes : (κ : Lft) → typesAt (thread.signature .params) (κ, tt) ≡ ShrRef (named 0) κ table.the-row ∷ (UInt w8 ∷ [])
+thread-takes κ = refl
+
+pub resource-takes : (κ : Lft) → typesAt (resource.signature .params) (κ, tt) ≡ ShrRef (named 0) κ table.the-row ∷ (UInt w8 ∷ [])
+resource-takes κ = refl

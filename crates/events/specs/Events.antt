@@ -9,7 +9,8 @@ use Rattle.protocol.specs.Events.{Thread, Resource, Event, Create, Exit, Set, P
 use Rattle.protocol.specs.Schedule.{release}
 use Rattle.table.specs.declared.Table.{Table}
 use Rattle.table.specs.declared.Slot.{Slot}
-use Rattle.table.specs.Table.{own, queues, slot, dead-slot, fresh-slot, set-slot}
+use Rattle.table.specs.Table.{own, queues, slot, dead-slot}
+use Rattle.table.specs.Slots.{fresh-slot, set-slot}
 use Rattle.table.specs.Compute.{is-live, is-higher, current}
 use Rattle.refusals.specs.declared.Record.{Record}
 

@@ -8,7 +8,8 @@ use lib.ListN.{length}
 use borrow.Author.Tests.{eq-eqb, ne-eqb}
 use Rattle.protocol.specs.Sets.{_∈_, only, _∪_, image}
 use Rattle.protocol.specs.Events.{Thread, Priority, Resource, Create, Exit, Set, P, «V», State, threads, Precedence, prec, _≼_}
-use Rattle.protocol.specs.Schedule.{wq, holds, dependants, cprec, release, running}
+use Rattle.protocol.specs.Schedule.{wq, holds, cprec, release, running}
+use Rattle.protocol.specs.Notions.{dependants}
 use Rattle.protocol.specs.Rules.{create, set as set-step, valid, after}
 use Rattle.protocol.specs.Children.{children}
 use Rattle.protocol.specs.Changes.{Same-cprec}

@@ -1,7 +1,7 @@
--- Demand 3 holds: specs/Demand3.antt has both statements and every word in them. Assumes nothing.
+-- Demand 3, both sentences over the paper's states and for any choice of the next holder: specs/Demand3.antt has the words that they use. Assumes nothing.
 use Prim.Native.Nat.{ℕ, _+_, _*_, _≤_, _<_}
-use mathlib.Core.Path.{_≡_, refl, ap, subst, _∙_}
-use mathlib.Core.Bool.{cond, not}
+use mathlib.Core.Path.{_≡_, refl, sym, ap, subst, _∙_}
+use mathlib.Core.Bool.{Bool, cond, not}
 use mathlib.Core.Option.{Option, none, some}
 use mathlib.Core.List.{List, [], _∷_, _++_}
 use mathlib.Core.Logic.{_≢_, _⊎_, inl, inr, ⊎-elim, _↔_, Dec·and, Dec·not}
@@ -10,16 +10,41 @@ use native.Mathlib.Omega.{arith}
 use lib.Dec.{eqb}
 use borrow.Author.Tests.{eq-eqb, ne-eqb}
 use Rattle.protocol.specs.Sets.{_∈_, images, set, Max}
-use Rattle.protocol.specs.Events.{Event, State, threads, Precedence, prec, _≼_}
-use Rattle.protocol.specs.Schedule.{wq, cprec, running, detached}
+use Rattle.protocol.specs.Events.{Thread, Event, Create, Exit, Set, P, «V», State, threads, priority, Precedence, prec, _≼_}
+use Rattle.protocol.specs.Schedule.{wq, cprec, running}
+use Rattle.protocol.specs.Notions.{detached}
 use Rattle.protocol.specs.Rules.{valid}
-use Rattle.protocol.specs.Demand3.{Moment, now, before, holds-or-waits, Premises, First-sentence, caller, tally, calls, calls-of-others, others, Number, Until, none-yet, so-far, over, Second-sentence}
-use Rattle.protocol.proofs.Kept.{Kept, valid-kept, valid-before, last-step, caller-runs}
+use Rattle.protocol.specs.Demand3.{Moment, now, before, holds-or-waits, spares, calls-by, calls, calls-of-others, others, Number, Until, none-yet, so-far, over}
+use Rattle.protocol.proofs.Kept.{Kept, valid-kept, valid-before, last-step, caller, caller-runs}
 use Rattle.protocol.proofs.Finite.{size, live-below, dec-attached, attached-in}
 use Rattle.protocol.proofs.Spared.{Stands, capped, runs-at, idle-not-running, idle-stays, still-stands}
 use Rattle.protocol.proofs.Theorems.{some-runs, has-cprec}
 use Rattle.protocol.proofs.Order.{≼-total}
 use Rattle.protocol.proofs.Numbers.{sum, sum-grows, sum-less, sum-bound, number-below}
+
+-- The premises: the events s′ happened after the moment s by the rules; at s the thread th is live and its own precedence is
+-- the highest of all live threads; and each of the events spares it.
+pub record Premises (s : State) (th : Thread) (s′ : List Event) : Type 0 where
+  pub by-rules : valid (s′ ++ s)
+  pub live : th ∈ threads s
+  pub highest : (u : Thread) → u ∈ threads s → prec u s ≼ prec th s
+  pub spared : (e : Event) → e ∈ set s′ → spares th (priority th s) e
+
+-- Demand 3, first sentence: any other thread that runs was live at that moment, has held or waited for a resource ever since,
+-- and runs at exactly the first thread's precedence.
+abbrev pub First-sentence : Type 0
+First-sentence = (s : State) (th : Thread) (s′ : List Event) → Premises s th s′ →
+    (th′ : Thread) → th′ ∈ running (s′ ++ s) → th′ ≢ th →
+    (th′ ∈ threads s) × ((m : State) → Moment s s′ m → holds-or-waits m th′) × cprec (s′ ++ s) th′ (prec th s)
+
+-- Demand 3, second sentence: if each of the n others holding or waiting at that moment makes at most K calls until it first
+-- neither holds nor waits, that call included, or so far if that has not come, then all others together have made at most
+-- n times K, Creates not counted.
+abbrev pub Second-sentence : Type 0
+Second-sentence = (s : State) (th : Thread) (s′ : List Event) → Premises s th s′ →
+    (n K : ℕ) → Number (others s th) n →
+    ((u : Thread) → u ∈ others s th → (es : List Event) → Until u s s′ es → calls u es ≤ K) →
+    calls-of-others th s′ ≤ n * K
 
 -- the premises for all but the newest event
 earlier : {s : State} {th : ℕ} {e : Event} {s′ : List Event} → Premises s th (e ∷ s′) → Premises s th s′
@@ -103,6 +128,19 @@ others-number s th v = let c = number-below (others s th) (λ u. Dec·and (Dec·
     low : (u : ℕ) → holds-or-waits s u → u < size s
     low u a = let w = attached-in s u a in live-below s u (valid-kept s v .entries (w .0) u (w .1))
 
+-- 1 for a caller that passes the test, 0 for one that does not, and for nobody
+abbrev tally : (Thread → Bool) → Option Thread → ℕ
+tally test none = 0
+tally test (some th) = cond (test th) 1 0
+
+-- an event adds that to the calls
+calls-more : (test : Thread → Bool) (e : Event) (es : List Event) → calls-by test (e ∷ es) ≡ tally test (caller e) + calls-by test es
+calls-more test (Create th prio) es = omega arith
+calls-more test (Exit th) es = refl
+calls-more test (Set th prio) es = refl
+calls-more test (P th cs) es = refl
+calls-more test («V» th cs next) es = refl
+
 module _ (s : State) (th : ℕ) where
   -- whoever else calls is one of the others, and has held or waited ever since
   other-calls : (e : Event) (s′ : List Event) → Premises s th (e ∷ s′) → (u : ℕ) → u ≢ th → caller e ≡ some u → (u ∈ others s th) × ((m : State) → Moment s s′ m → holds-or-waits m u)
@@ -112,7 +150,7 @@ module _ (s : State) (th : ℕ) where
   all-until : (s′ : List Event) → Premises s th s′ → (u : ℕ) → u ≢ th → (es : List Event) → Until u s s′ es → calls u es ≡ calls u s′
   all-until s′ p u ne es none-yet = refl
   all-until s′ p u ne es (so-far f) = refl
-  all-until s′ p u ne es (over {e = e} {s′ = s″} mo n k) = all-until s″ (earlier p) u ne es k ∙ go (caller e) refl
+  all-until s′ p u ne es (over {e = e} {s′ = s″} mo n k) = all-until s″ (earlier p) u ne es k ∙ go (caller e) refl ∙ sym (calls-more (λ x. eqb x u) e s″)
     where
       go : (o : Option ℕ) → caller e ≡ o → calls u s″ ≡ tally (λ x. eqb x u) o + calls u s″
       go none q = omega arith
@@ -125,7 +163,12 @@ module _ (s : State) (th : ℕ) where
   -- each call of another thread counts for one of a list that has them all
   others-sum : (l : List ℕ) → ((u : ℕ) → u ∈ others s th → u ∈ set l) → (s′ : List Event) → Premises s th s′ → calls-of-others th s′ ≤ sum l (λ u. calls u s′)
   others-sum l has [] p = omega arith
-  others-sum l has (e ∷ s′) p = go (caller e) refl (others-sum l has s′ (earlier p))
+  others-sum l has (e ∷ s′) p = omega (
+    arith,
+    calls-more (λ u. not (eqb u th)) e s′,
+    go (caller e) refl (others-sum l has s′ (earlier p)),
+    sum-grows l (λ u. tally (λ x. eqb x u) (caller e) + calls u s′) (λ u. calls u (e ∷ s′)) (λ u. omega (arith, calls-more (λ x. eqb x u) e s′)),
+  )
     where
       go : (o : Option ℕ) → caller e ≡ o → calls-of-others th s′ ≤ sum l (λ u. calls u s′) → tally (λ u. not (eqb u th)) o + calls-of-others th s′ ≤ sum l (λ u. tally (λ x. eqb x u) o + calls u s′)
       go none q h = omega (arith, sum-grows l (λ u. calls u s′) (λ u. 0 + calls u s′) (λ u. omega arith))

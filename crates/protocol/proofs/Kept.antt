@@ -13,7 +13,6 @@ use Rattle.protocol.specs.Sets.{SetOf, _∈_, set}
 use Rattle.protocol.specs.Events.{Event, Create, Exit, Set, P, «V», State, threads, last-set, Precedence, prec}
 use Rattle.protocol.specs.Schedule.{wq, waits, holds, running}
 use Rattle.protocol.specs.Rules.{may-follow, step, create, exit, set as set-step, request, release, valid, start, after}
-use Rattle.protocol.specs.Demand3.{caller}
 use Rattle.protocol.proofs.Lists.{Follows, if-equal, in-cases}
 use Rattle.protocol.proofs.Forest.{Forest, bare-forest, Joins, join-forest, join-in, Passes, pass-forest, pass-in}
 
@@ -114,6 +113,14 @@ valid-before (after v k) = v
 
 pub last-step : {s : State} {e : Event} → valid (e ∷ s) → step s e
 last-step (after v k) = k
+
+-- whose call an event is, if anybody's
+abbrev pub caller : Event → Option ℕ
+caller (Create th prio) = none
+caller (Exit th) = some th
+caller (Set th prio) = some th
+caller (P th cs) = some th
+caller («V» th cs next) = some th
 
 -- whoever calls runs
 pub caller-runs : (s : State) (e : Event) (th : ℕ) → caller e ≡ some th → step s e → th ∈ running s

@@ -21,3 +21,5 @@ pub mod Changes
 pub mod Numbers
 pub mod Spared
 pub mod Demand3
+-- Two examples on which the definitions of demand 3 can be checked.
+pub mod Witness

@@ -97,7 +97,7 @@ module _ (m : State) (kept : Kept m) (th : ℕ) (p : Precedence) (stands : Stand
   still-stands (Create x prio) (create dead) low = record {
     live = inr (stands .live);
     own = else-prec m x th prio ne ∙ stands .own;
-    highest = λ u l. stamped-stands x prio ne low u (λ n. ⊎-elim (λ e. absurd (n e)) (λ k. k) l);
+    highest = λ u l. stamped-stands x prio ne (omega (arith, low)) u (λ n. ⊎-elim (λ e. absurd (n e)) (λ k. k) l);
   }
     where
       ne : th ≢ x
@@ -106,7 +106,7 @@ module _ (m : State) (kept : Kept m) (th : ℕ) (p : Precedence) (stands : Stand
   still-stands (Set x prio) k (ne, low) = record {
     live = stands .live;
     own = else-prec m x th prio (λ e. ne (sym e)) ∙ stands .own;
-    highest = λ u l. stamped-stands x prio (λ e. ne (sym e)) low u (λ n. l);
+    highest = λ u l. stamped-stands x prio (λ e. ne (sym e)) (omega (arith, low)) u (λ n. l);
   }
   still-stands (P x cs) k ok = record { live = stands .live; own = stands .own; highest = stands .highest }
   still-stands («V» x cs next) k ok = record { live = stands .live; own = stands .own; highest = stands .highest }

@@ -1,12 +1,12 @@
 -- Document 000, section 2: the waiting queues of a state (the paper's schs), and the notions of the graph for a state; who
--- is ready, who runs, what a thread has locked, and when it is detached. Assumes nothing.
+-- is ready, who runs, and what a thread has locked. Assumes nothing.
 use mathlib.Core.Bool.{cond}
 use mathlib.Core.Option.{Option, none, some}
 use mathlib.Core.List.{List, [], _∷_, _++_}
 use lib.Dec.{eqb}
 use Rattle.protocol.specs.Sets.{SetOf, _∈_, Highest}
 use Rattle.protocol.specs.Events.{Thread, Resource, Create, Exit, Set, P, «V», State, threads, Precedence, prec, _≼_}
-use Rattle.protocol.specs.Graph.{Queues, all-unlocked, Node, holds as holds-in, waits as waits-in, RAG as RAG-of, dependants as dependants-in, cprec as cprec-in}
+use Rattle.protocol.specs.Graph.{Queues, all-unlocked, Node, holds as holds-in, waits as waits-in, RAG as RAG-of, cprec as cprec-in}
 
 -- wq(cs := q): cs has the queue q, every other resource has the queue that it had
 abbrev pub update : Queues → Resource → List Thread → Queues
@@ -42,9 +42,6 @@ waits s = waits-in (wq s)
 abbrev pub RAG : State → Node → Node → Type 0
 RAG s = RAG-of (wq s)
 
-abbrev pub dependants : State → Thread → SetOf Thread
-dependants s = dependants-in (wq s)
-
 abbrev pub cprec : State → Thread → Precedence → Type 0
 cprec s = cprec-in (wq s) (λ th. prec th s)
 
@@ -59,7 +56,3 @@ running s = Highest _≼_ (cprec s) (ready s)
 -- resources: what th has locked
 abbrev pub resources : State → Thread → SetOf Resource
 resources s th = λ cs. holds s th cs
-
--- detached: th neither holds nor waits for a resource
-abbrev pub detached : State → Thread → Type 0
-detached s th = (¬ ((cs : Resource) × holds s th cs)) × (¬ ((cs : Resource) × waits s th cs))

@@ -1,4 +1,5 @@
 -- Sets as the paper uses them: a set says of each thing whether it is in it. Assumes nothing.
+use Prim.Native.Nat.{ℕ, _<_}
 use mathlib.Core.Path.{_≡_}
 use mathlib.Core.Logic.{_⊎_}
 use mathlib.Core.List.{List, [], _∷_}
@@ -64,3 +65,7 @@ pub record Highest {A B : Type 0} (at-most : B → B → Type 0) (R : A → B �
   pub at : B
   pub value : R a at
   pub top : Max at-most (images R M) at
+
+-- n names what is in M, of numbers below N: it is in M, or it is N and nothing is
+abbrev pub Names : ℕ → SetOf ℕ → ℕ → Type 0
+Names N M n = ((n < N) × (n ∈ M)) ⊎ ((n ≡ N) × ((a : ℕ) → ¬ (a ∈ M)))

@@ -14,9 +14,9 @@ use Rattle.protocol.proofs.Current.{law-cprec}
 use Rattle.table.specs.declared.Table.{Table}
 use Rattle.table.specs.declared.Slot.{Slot}
 use Rattle.table.specs.Table.{at, live, own, stored, queues}
-use Rattle.table.specs.Sound.{Bare, Sound, Zero-slot}
+use Rattle.table.specs.Sound.{Bare, Sound}
 use Rattle.table.specs.Compute.{holder}
-use Rattle.table.specs.code.Shape.{Shape}
+use Rattle.table.specs.code.Shape.{Shape, Zero-slot}
 use Rattle.table.proofs.sound.Queues.{live-low}
 use Rattle.table.proofs.sound.Order.{zero-beyond, rows-orderly, sound-orderly, sound-law}
 use Rattle.table.proofs.sound.Read.{sound-good}

@@ -45,7 +45,3 @@ pub record Sound (t : Table) : Type 0 where
   pub dead-stored : (th : Thread) → ¬ (th ∈ live t) → stored t th ≡ (0, 0)
   -- each is the defined one; for threads that aren't live nothing is claimed but the zeros above
   pub current : (th : Thread) → th ∈ live t → cprec t th (stored t th)
-
--- a slot that isn't live has zero everywhere
-abbrev pub Zero-slot : Table → Thread → Type 0
-Zero-slot t th = (slot t th ≡ dead-slot) × (stored t th ≡ (0, 0))

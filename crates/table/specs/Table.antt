@@ -1,12 +1,11 @@
 -- Document 01's table: what each field means, and document 000's definitions read off it. Assumes nothing.
-use Prim.Native.Nat.{ℕ, _*_, _<_}
+use Prim.Native.Nat.{ℕ, _*_}
 use mathlib.Core.Path.{_≡_}
-use mathlib.Core.Logic.{_⊎_}
 use mathlib.Core.List.{List}
 use lib.ListN.{getD, take, drop, replicate}
 use Rattle.protocol.specs.Sets.{SetOf, _∈_, Highest}
-use Rattle.protocol.specs.Events.{Thread, Priority, Resource, Precedence, _≼_}
-use Rattle.protocol.specs.Graph.{Queues, holds as holds-in, waits as waits-in, dependants as dependants-in, cprec as cprec-in}
+use Rattle.protocol.specs.Events.{Thread, Resource, Precedence, _≼_}
+use Rattle.protocol.specs.Graph.{Queues, holds as holds-in, waits as waits-in, cprec as cprec-in}
 use Rattle.table.specs.declared.Table.{Table}
 use Rattle.table.specs.declared.Slot.{Slot}
 
@@ -35,14 +34,6 @@ slot t th = record { live = at (t .live) th; priority = at (t .priority) th; tim
 abbrev pub dead-slot : Slot
 dead-slot = record { live = 0; priority = 0; time = 0 }
 
--- the slot of a thread that is created: live, with this priority, set at this time
-abbrev pub fresh-slot : Priority → ℕ → Slot
-fresh-slot priority time = record { live = 1; priority = priority; time = time }
-
--- the slot of a thread that is set: a new own priority, set at this time; the rest stays
-abbrev pub set-slot : Slot → Priority → ℕ → Slot
-set-slot s priority time = record { live = s .live; priority = priority; time = time }
-
 -- live or not
 abbrev pub live : Table → SetOf Thread
 live t = λ th. at (t .live) th ≡ 1
@@ -55,7 +46,7 @@ own t th = (at (t .priority) th, at (t .time) th)
 abbrev pub stored : Table → Thread → Precedence
 stored t th = (at (t .«current_priority») th, at (t .«current_time») th)
 
--- the queue of a resource: as many of its 32 places as its length says
+-- the queue of a resource: as many places from the first of its 32 on as its length says; a length above 32, which a sound table does not have, would run into the next queue's
 abbrev pub queues : Table → Queues
 queues t cs = take (at (t .length) cs) (drop (cs * 32) (t .queue))
 
@@ -65,10 +56,6 @@ holds t = holds-in (queues t)
 
 abbrev pub waits : Table → Thread → Resource → Type 0
 waits t = waits-in (queues t)
-
--- the dependants of a thread: all who wait, directly or through others, for what it holds
-abbrev pub dependants : Table → Thread → SetOf Thread
-dependants t = dependants-in (queues t)
 
 -- current precedence: the highest own precedence among the thread and its dependants
 abbrev pub cprec : Table → Thread → Precedence → Type 0
@@ -81,7 +68,3 @@ ready t = λ th. (th ∈ live t) × ((cs : Resource) → ¬ waits t th cs)
 -- running: the ready thread of highest current precedence
 abbrev pub running : Table → SetOf Thread
 running t = Highest _≼_ (cprec t) (ready t)
-
--- r names the running thread, 32 if there is none
-abbrev pub Runner : Table → ℕ → Type 0
-Runner t r = ((r < 32) × (r ∈ running t)) ⊎ ((r ≡ 32) × ((th : Thread) → ¬ (th ∈ running t)))

@@ -4,7 +4,8 @@ pub mod queues;
 pub mod running;
 
 ghost use mathlib.Core.Path.{_≡_};
-ghost use Rattle.table.specs.Table.{empty, fresh-slot, dead-slot, set-slot};
+ghost use Rattle.table.specs.Slots.{fresh-slot, set-slot};
+ghost use Rattle.table.specs.Table.{empty, dead-slot};
 
 // One array a property: an array of numbers is lent without a copy, and loops over it vectorise. `live` is 0 or 1, and any
 // other number makes the table unsound; that the clock is at most 65,535 and a priority at most 255 holds by the types.

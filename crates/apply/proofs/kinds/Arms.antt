@@ -11,7 +11,8 @@ use Rattle.protocol.specs.Events.{Event, Create, Exit, Set, P, «V»}
 use Rattle.protocol.specs.Schedule.{release as leave}
 use Rattle.table.specs.declared.Table.{Table}
 use Rattle.table.specs.declared.Slot.{Slot}
-use Rattle.table.specs.Table.{at, slot, fresh-slot, dead-slot, set-slot, queues}
+use Rattle.table.specs.Table.{at, slot, dead-slot, queues}
+use Rattle.table.specs.Slots.{fresh-slot, set-slot}
 use Rattle.refusals.specs.declared.Record.{Record}
 use Rattle.events.specs.Events.{later, with-slot, with-queue, changed, named}
 use Rattle.events.specs.code.Permits.{Permits}

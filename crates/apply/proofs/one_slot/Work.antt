@@ -9,7 +9,8 @@ use Rattle.protocol.specs.Sets.{_∈_, set as members, Max}
 use Rattle.protocol.specs.Events.{Event, Create, Exit, Set}
 use Rattle.protocol.specs.Rank.{rank}
 use Rattle.table.specs.declared.Table.{Table}
-use Rattle.table.specs.Table.{slot, fresh-slot, dead-slot, set-slot, queues}
+use Rattle.table.specs.Table.{slot, dead-slot, queues}
+use Rattle.table.specs.Slots.{fresh-slot, set-slot}
 use Rattle.table.proofs.sound.Read.{holder-holds}
 use Rattle.table.proofs.values.Values.{thread-low}
 use Rattle.table.proofs.values.Known.{known-good}

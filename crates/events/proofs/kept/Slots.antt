@@ -8,7 +8,8 @@ use lib.Seq.{getD-set-same, getD-set-other}
 use Rattle.protocol.specs.Sets.{_∈_, set}
 use Rattle.table.specs.declared.Table.{Table}
 use Rattle.table.specs.declared.Slot.{Slot}
-use Rattle.table.specs.Table.{at, slot, dead-slot, fresh-slot, set-slot, live, queues}
+use Rattle.table.specs.Table.{at, slot, dead-slot, live, queues}
+use Rattle.table.specs.Slots.{fresh-slot, set-slot}
 use Rattle.table.specs.Sound.{Bare}
 use Rattle.table.specs.code.Shape.{Shape}
 use Rattle.events.specs.Events.{later, with-slot}

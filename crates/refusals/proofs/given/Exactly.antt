@@ -153,12 +153,7 @@ pub given-1 : (t : Table) (e : Record) (n : ℕ) → Given t e n → n ≡ 1 →
 given-1 t e n (inl w) z = absurd (omega (arith, w .0))
 given-1 t e n (inr w) z = ⊎-elim (λ v. v .1) (⊎-elim (λ i. absurd (omega (arith, from-2-to-4 e n i .0))) (λ v. absurd (omega (arith, v .0)))) (from-1-to-11 t e n (w .0))
 
--- the number is one of 0 to 11
-pub given-low : (t : Table) (e : Record) (n : ℕ) → Given t e n → n ≤ 11
-given-low t e n (inl w) = omega (arith, w .0)
-given-low t e n (inr w) = bounds t e n (w .0) .1
-
--- and only one number is given
+-- only one number is given
 pub given-one : (t : Table) (e : Record) (n m : ℕ) → Given t e n → Given t e m → n ≡ m
 given-one t e n m (inl a) (inl b) = a .0 ∙ sym (b .0)
 given-one t e n m (inl a) (inr b) = absurd (a .1 m (b .0))

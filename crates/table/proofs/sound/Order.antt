@@ -17,9 +17,9 @@ use Rattle.protocol.proofs.Runner.{running-unique, running-some}
 use Rattle.table.specs.declared.Table.{Table}
 use Rattle.table.specs.declared.Slot.{Slot}
 use Rattle.table.specs.Table.{at, live, own, stored, queues, cprec, running}
-use Rattle.table.specs.Sound.{Queues-right, Bare, Sound, Zero-slot}
+use Rattle.table.specs.Sound.{Queues-right, Bare, Sound}
 use Rattle.table.proofs.arrays.Bounds.{beyond}
-use Rattle.table.specs.code.Shape.{Shape}
+use Rattle.table.specs.code.Shape.{Shape, Zero-slot}
 use Rattle.table.proofs.sound.Queues.{live-low, taken-low, in-queue, One-queue}
 
 -- beyond the arrays every slot is zero

@@ -6,13 +6,13 @@ use mathlib.Core.Logic.{_≢_, _⊎_, inl, inr}
 use native.Mathlib.Decide.{ℕ-discrete}
 use native.Mathlib.Omega.{arith}
 use lib.ListN.{length}
-use Rattle.protocol.specs.Sets.{_∈_}
+use Rattle.protocol.specs.Sets.{_∈_, Names}
 use Rattle.protocol.specs.Events.{Thread, Resource, Precedence, _≼_}
 use Rattle.protocol.proofs.Order.{≼-total}
 use Rattle.protocol.proofs.Highest.{max-unique}
 use Rattle.protocol.proofs.Runner.{running-unique}
 use Rattle.table.specs.declared.Table.{Table}
-use Rattle.table.specs.Table.{at, live, own, stored, queues, holds, waits, Runner}
+use Rattle.table.specs.Table.{at, live, own, stored, queues, holds, waits, running}
 use Rattle.table.specs.Sound.{Sound}
 use Rattle.table.specs.Compute.{first-or-32, is-live, holder, waits-for, current, runner}
 use Rattle.table.specs.code.Places.{entry}
@@ -67,11 +67,11 @@ module _ (t : Table) (g : Good t) where
   waits-named = waits-for-is t (g .bare .one-wait) (resource-low t g)
 
   -- `runner` names the running thread
-  pub runs : Runner t (runner t)
+  pub runs : Names 32 (running t) (runner t)
   runs = runner-is t (g .order) (resource-low t g) (live-low t (g .shape))
 
   -- and no two do
-  pub one-runner : (r q : ℕ) → Runner t r → Runner t q → r ≡ q
+  pub one-runner : (r q : ℕ) → Names 32 (running t) r → Names 32 (running t) q → r ≡ q
   one-runner r q (inl a) (inl b) = running-unique (g .order) (own t) (λ x y l m e. g .bare .times .different x y l m (ap (λ (p : Precedence). p .1) e)) r q (a .1) (b .1)
   one-runner r q (inl a) (inr b) = absurd (b .1 r (a .1))
   one-runner r q (inr a) (inl b) = absurd (a .1 q (b .1))

@@ -6,7 +6,7 @@ use mathlib.Core.List.{List, [], _∷_}
 use mathlib.Core.Logic.{_≢_, _⊎_, inl, inr, ⊎-elim}
 use native.Mathlib.Omega.{arith}
 use lib.Dec.{eqb, ltb}
-use Rattle.protocol.specs.Sets.{SetOf, _∈_, only, _∪_, image, set, hd, Max}
+use Rattle.protocol.specs.Sets.{SetOf, _∈_, only, _∪_, image, set, hd, Max, Names}
 use Rattle.protocol.specs.Events.{Precedence, higher, _≼_}
 use Rattle.protocol.specs.Children.{children}
 use Rattle.protocol.proofs.Decide.{below-suc}
@@ -17,7 +17,7 @@ use Rattle.protocol.proofs.Ways.{waits-free, climb-way, way-bounded}
 use Rattle.protocol.proofs.Lists.{in-held}
 use Rattle.protocol.proofs.Current.{Orderly, parents, parent-live, dependant-live, current-cprec}
 use Rattle.table.specs.declared.Table.{Table}
-use Rattle.table.specs.Table.{at, live, own, queues, holds, waits, cprec, ready, Runner}
+use Rattle.table.specs.Table.{at, live, own, queues, holds, waits, cprec, ready, running}
 use Rattle.table.specs.Compute.{find-below, first-or-32, is-live, holder, is-waiting, waits-for, blocker, depends, is-higher, highest-behind, current, is-ready, leader, runner}
 use Rattle.table.proofs.sound.Queues.{One-queue}
 use Rattle.table.proofs.tests.Reflect.{Tells, tells-itself, tells-eq, tells-lt, tells-both, tells-either, tells-not, tells-member, tells-higher}
@@ -210,7 +210,7 @@ module _ (t : Table) (o : Orderly (queues t) (live t)) (low : (x r : ℕ) → x 
       )
 
   -- the thread that is named runs
-  pub runner-is : Runner t (runner t)
+  pub runner-is : Names 32 (running t) (runner t)
   unfolding runner Led
   runner-is = ⊎-elim
       (λ k. inr (k .0, λ th r. k .1 th (live-low th (r .among .0)) (r .among)))

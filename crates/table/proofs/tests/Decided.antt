@@ -17,8 +17,8 @@ use Rattle.protocol.proofs.Current.{Orderly}
 use Rattle.table.specs.declared.Table.{Table}
 use Rattle.table.specs.declared.Slot.{Slot}
 use Rattle.table.specs.Table.{at, live, own, stored, queues, waits}
-use Rattle.table.specs.Sound.{Zero-slot, Sound, Queues-right}
-use Rattle.table.specs.code.Shape.{Shape}
+use Rattle.table.specs.Sound.{Sound, Queues-right}
+use Rattle.table.specs.code.Shape.{Shape, Zero-slot}
 use Rattle.table.specs.Compute.{is-live, waits-for, blocker, current, ends, dead-zero, spare-zero, time-right, queue-right, waits-once, current-right, is-sound}
 use Rattle.table.proofs.arrays.Bounds.{beyond}
 use Rattle.table.proofs.sound.Queues.{live-low, taken-low, in-queue, One-queue}

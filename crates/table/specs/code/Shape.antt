@@ -1,9 +1,11 @@
--- A table by its arrays, and their sizes. Assumes nothing.
+-- A table by its arrays, and their sizes; and a slot that is zero. Assumes nothing.
 use Prim.Native.Nat.{ℕ}
 use mathlib.Core.Path.{_≡_}
 use mathlib.Core.List.{List}
 use lib.ListN.{length}
+use Rattle.protocol.specs.Events.{Thread}
 use Rattle.table.specs.declared.Table.{Table}
+use Rattle.table.specs.Table.{slot, dead-slot, stored}
 
 -- the table that has these fields
 abbrev pub table-of : ℕ → List ℕ → List ℕ → List ℕ → List ℕ → List ℕ → List ℕ → List ℕ → Table
@@ -27,3 +29,7 @@ pub record Shape (t : Table) : Type 0 where
   pub current-time-size : length (t .«current_time») ≡ 32
   pub queue-size : length (t .queue) ≡ 512
   pub length-size : length (t .length) ≡ 16
+
+-- a slot that isn't live has zero everywhere
+abbrev pub Zero-slot : Table → Thread → Type 0
+Zero-slot t th = (slot t th ≡ dead-slot) × (stored t th ≡ (0, 0))
