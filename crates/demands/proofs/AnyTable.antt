@@ -1,8 +1,9 @@
 -- On any table at all, reached or not, demand 1 decides each number, each refusal and the whole answer of the running query; a sound table stays sound, and who runs is named. Assumes nothing.
-use Prim.Native.Nat.{ℕ}
+use Prim.Native.Nat.{ℕ, _≤_}
 use mathlib.Core.Path.{_≡_, refl}
 use mathlib.Core.Logic.{_≢_, _⊎_, inl, inr, ⊎-elim}
 use mathlib.Core.List.{List, [], _∷_}
+use native.Mathlib.Omega.{arith}
 use Rattle.protocol.specs.Sets.{_∈_, set, Names}
 use Rattle.table.specs.declared.Table.{Table}
 use Rattle.table.specs.Table.{running}
@@ -48,6 +49,12 @@ module _ (c : Calls) (d : Demand-1 c) where
   pub sound-ever-after : (es : List Record) → ((e : Record) → e ∈ set es → Any-record e) → (t : Table) → Any-table t → Sound t → Sound (after-all es t) × Any-table (after-all es t)
   sound-ever-after [] bytes t a s = (s, a)
   sound-ever-after (e ∷ es) bytes t a s = let w = sound-ever-after es (λ x i. bytes x (inr i)) t a s in let k = still-sound (w .0) (w .1) (d .step (after-all es t) e (w .1) (bytes e (inl refl))) in (k .1, k .2)
+
+-- no count is above 16
+pub counts-to-16 : {t : Table} {e : Record} {l : Left Answer} → Step-fixed t e l → l .answer .count ≤ 16
+counts-to-16 (fixed.Step-fixed.not-sound n) = omega arith
+counts-to-16 (fixed.Step-fixed.refused s g r) = omega arith
+counts-to-16 (fixed.Step-fixed.accepted s g u m r k) = k
 
 -- a refusal counts 0
 pub refusal-counts-0 : {t : Table} {e : Record} {l : Left Answer} → Step-fixed t e l → l .answer .number ≢ 0 → l .answer .count ≡ 0

@@ -90,6 +90,7 @@ module _ (t : Table) (s : Shape t) where
 -- functions that do what the contracts say meet it
 pub demand-1 : (c : Calls) → As-stated c → Demand-1 c
 demand-1 c is = record {
+  empty = is .empty;
   step = λ t e a b. subst (Step-fixed t e) (sym (left-is (c .step t e) (is .step t e a b))) (step-answers t (any-shape a) e (b .argument));
   running = λ t a. subst (Running-fixed t) (sym (left-is (c .running t) (is .running t a))) (running-answers t (any-shape a));
   thread = λ t th a h. subst (Thread-fixed t th) (sym (left-is (c .thread t th) (is .thread t th a h))) (thread-answers t (any-shape a) th);

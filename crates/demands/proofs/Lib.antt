@@ -26,6 +26,7 @@ pub mod OneTable
 pub mod OneNumber
 pub mod AnyTable
 pub mod NothingFree
--- Demand 3 on an example.
+-- Demand 3 as it is used, and on an example.
+pub mod Used
 pub mod Played
 pub mod Witness

@@ -1,16 +1,17 @@
 -- The demands leave nothing free: functions that meet demands 1 and 2 have, after any calls from the empty table on, the table and the answers of the functions that the contracts name. Assumes nothing.
-use Prim.Native.Nat.{ℕ, _≤_}
+use Prim.Native.Nat.{ℕ, _≤_, _<_}
 use mathlib.Core.Path.{_≡_, sym, ap, _∙_}
-use mathlib.Core.Logic.{by-cases}
+use mathlib.Core.Logic.{_↔_, by-cases}
 use mathlib.Core.List.{List, [], _∷_}
 use native.Mathlib.Decide.{ℕ-discrete}
+use lib.ListN.{length}
 use Rattle.protocol.specs.Events.{State}
 use Rattle.table.specs.declared.Table.{Table}
 use Rattle.refusals.specs.declared.Record.{Record}
 use Rattle.locks.specs.declared.Answer.{Answer}
 use Rattle.demands.specs.Memory.{Any-table, Any-record}
 use Rattle.demands.specs.Calls.{Left, Calls}
-use Rattle.demands.specs.Runs.{Call, event, ask, Any-calls, table-after, number-of, History, none-yet, accepted, refused, asked}
+use Rattle.demands.specs.Runs.{Call, event, ask, Any-calls, table-after, number-of, History, none-yet, accepted, refused, asked, Well-formed}
 use Rattle.demands.specs.Demand1.{Demand-1}
 use Rattle.demands.specs.Demand2.{After, Demand-2}
 use Rattle.demands.proofs.Counted.{counts-one}
@@ -121,3 +122,12 @@ nothing-free c d₁ d₂ t held ks any = record {
   thread = same-thread c d₁ d₂ t held ks any;
   resource = same-resource c d₁ d₂ t held ks any;
 }
+
+-- Demand 2 alone decides which well-formed records are accepted, up to event 65,535: where two meet it and the same events came before, they accept the same.
+pub accepts-the-same : (c c′ : Calls) → Demand-2 c → Demand-2 c′ → (t : Table) → Any-table t → (ks : List Call) → Any-calls ks → (s : State) → History c t ks s → History c′ t ks s →
+    (e : Record) → Any-record e → Well-formed e → length s < 65535 → (number-of c t ks e ≡ 0) ↔ (number-of c′ t ks e ≡ 0)
+accepts-the-same c c′ d d′ t held ks any s h h′ e b formed short =
+    let w = after d held any h .admits e b formed short in
+    let w′ = after d′ held any h′ .admits e b formed short in
+    let ev = w .0 .0 in let writes = w .0 .1 in
+    ((λ z. w′ .1 ev writes .1 (w .1 ev writes .0 z)), λ z. w .1 ev writes .1 (w′ .1 ev writes .0 z))

@@ -13,7 +13,7 @@ use Rattle.protocol.specs.Schedule.{holds, waits, running}
 use Rattle.protocol.specs.Rules.{valid}
 use Rattle.protocol.proofs.Theorems.{holds-one, waits-one, one-runs, one-cprec}
 use Rattle.table.specs.declared.Table.{Table}
-use Rattle.table.specs.Table.{at, slot, live, stored, queues}
+use Rattle.table.specs.Table.{at, slot, live, own, stored, queues}
 use Rattle.table.specs.Sound.{Sound}
 use Rattle.table.specs.code.Places.{entry}
 use Rattle.table.proofs.arrays.Bounds.{beyond}
@@ -47,8 +47,8 @@ module _ {s : State} (v : valid s) (t u : Table) (a : Any-table t) (b : Any-tabl
   same-slot th = by-cases (ℕ-discrete (at (t .live) th) 1) (λ l. here (m .live-are th .0 l)) (λ d. gone (λ l. d (m .live-are th .1 l)))
     where
       here : th ∈ threads s → (slot t th ≡ slot u th) × (stored t th ≡ stored u th)
-      here l = (
-        λ i. record { live = (m .live-are th .1 l ∙ sym (n .live-are th .1 l)) i; priority = (m .priority-is th l ∙ sym (n .priority-is th l)) i; time = (m .time-is th l ∙ sym (n .time-is th l)) i },
+      here l = let same : own t th ≡ own u th = m .own-is th l ∙ sym (n .own-is th l) in (
+        λ i. record { live = (m .live-are th .1 l ∙ sym (n .live-are th .1 l)) i; priority = same i .0; time = same i .1 },
         one-cprec s v th (stored t th) (stored u th) (m .current-is th l) (n .current-is th l),
       )
 
@@ -107,13 +107,16 @@ module _ {s : State} (v : valid s) where
   pub one-thread-answer : (th : ℕ) (a b : ThreadAnswer) → Thread-told s th a → Thread-told s th b → a ≡ b
   one-thread-answer th a b p q = λ i. record {
     number = (p .accepted ∙ sym (q .accepted)) i;
-    priority = (p .priority-is ∙ sym (q .priority-is)) i;
-    time = (p .time-is ∙ sym (q .time-is)) i;
+    priority = own-same i .0;
+    time = own-same i .1;
     «current_priority» = current i .0;
     «current_time» = current i .1;
     «waits_for» = one-waited th (a .«waits_for») (b .«waits_for») (p .waits-for) (q .waits-for) i;
   }
     where
+      own-same : _≡_ {A = Precedence} (a .priority, a .time) (b .priority, b .time)
+      own-same = p .own-is ∙ sym (q .own-is)
+
       current : _≡_ {A = Precedence} (a .«current_priority», a .«current_time») (b .«current_priority», b .«current_time»)
       current = one-cprec s v th _ _ (p .current-is) (q .current-is)
 

@@ -102,8 +102,7 @@ module _ {t : Table} {s : State} (r : Reached t s) where
   unfolding thread-table
   thread-told th l = let here = r .agrees .live th .1 l in rw (thread-is t (r .right) th here) (record {
     accepted = refl;
-    priority-is = shows r .priority-is th l;
-    time-is = shows r .time-is th l;
+    own-is = shows r .own-is th l;
     current-is = subst (cprec s th) (sym (current-stored t (r .right .0) (r .right .1) th here)) (shows r .current-is th l);
     waits-for = names-waited th;
   })

@@ -85,8 +85,7 @@ module _ {t : Table} {s : State} (r : Reached t s) where
   shows = record {
     clock-is = r .agrees .clock;
     live-are = r .agrees .live;
-    priority-is = λ th l. ap (λ (p : Precedence). p .0) (r .agrees .own th l);
-    time-is = λ th l. ap (λ (p : Precedence). p .1) (r .agrees .own th l);
+    own-is = r .agrees .own;
     queues-are = λ cs. ap (λ (q : Queues). q cs) (r .agrees .queues);
     current-is = λ th l. same-cprec th l (table.stored t th) .0 (r .right .1 .current th (r .agrees .live th .1 l));
   }

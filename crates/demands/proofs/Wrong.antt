@@ -8,11 +8,12 @@ use native.Mathlib.Omega.{arith}
 use borrow.Author.Tests.{le-ltb}
 use Rattle.protocol.specs.Sets.{Names}
 use Rattle.protocol.specs.Events.{Create, State}
-use Rattle.protocol.specs.Schedule.{running}
+use Rattle.protocol.specs.Schedule.{running as runs}
 use Rattle.protocol.specs.Rules.{step, create as create-step}
 use Rattle.protocol.proofs.Theorems.{some-runs}
 use Rattle.table.specs.declared.Table.{Table}
 use Rattle.table.specs.Table.{empty}
+use Rattle.table.specs.Sound.{Sound}
 use Rattle.refusals.specs.declared.Record.{Record}
 use Rattle.refusals.specs.Refusals.{malformed, by-record, lowest}
 use Rattle.refusals.proofs.given.Formed.{well-formed}
@@ -21,7 +22,7 @@ use Rattle.locks.specs.Answers.{answerOf}
 use Rattle.demands.specs.Memory.{Any-table, Any-record}
 use Rattle.demands.specs.Calls.{Calls}
 use Rattle.demands.specs.Stated.{As-stated}
-use Rattle.demands.specs.Runs.{event, table-after, number-of, Writes, create, History, none-yet, accepted, Well-formed}
+use Rattle.demands.specs.Runs.{Query, running, thread, resource, event, ask, Any-call, table-after, number-of, Writes, create, History, none-yet, accepted, asked, Well-formed}
 use Rattle.demands.specs.Counted.{Counts, create as create-count}
 use Rattle.demands.specs.Demand1.{Demand-1}
 use Rattle.demands.specs.Demand2.{After, Demand-2}
@@ -50,6 +51,15 @@ Touches-nothing c = (t : Table) (e : Record) → Any-table t → Any-record e �
 -- One that, whatever it does with the first event, afterwards only answers 0 does not.
 abbrev pub Then-answers-0 : Calls → Type 0
 Then-answers-0 c = (t : Table) (e : Record) → Any-table t → Any-record e → t ≢ empty → c .step t e .answer .number ≡ 0
+
+-- One of whose queries leaves a table that isn't sound does not.
+abbrev pub left-by : Calls → Query → Table → Table
+left-by c running t = c .running t .table
+left-by c (thread th) t = c .thread t th .table
+left-by c (resource cs) t = c .resource t cs .table
+
+abbrev pub Spoils : Calls → Query → Type 0
+Spoils c q = (t : Table) → Any-table t → ¬ Sound (left-by c q t)
 
 -- One whose count is anywhere another than that of the section on re-evaluations does not do what the contracts say; one whose count is always the same does not meet demands 1 and 2.
 abbrev pub Invents-a-count : Calls → Type 0
@@ -100,7 +110,7 @@ module _ (c : Calls) (d : Demand-2 c) where
     after-first = after d memory (any x low, tt) first-history
 
     -- then x runs, and no other
-    x-is-named : (r : ℕ) → Names 32 (running (Create x 0 ∷ [])) r → r ≡ x
+    x-is-named : (r : ℕ) → Names 32 (runs (Create x 0 ∷ [])) r → r ≡ x
     x-is-named r (inl w) = ⊎-elim (λ e. e) absurd (w .1 .among .0)
     x-is-named r (inr w) = let k = some-runs (Create x 0 ∷ []) (after-first .by-rules) x (inl refl) in absurd (w .1 (k .0) (k .1))
 
@@ -137,7 +147,7 @@ touches-nothing c wrong d = ⊎-elim (λ w. w .1 .among .0) (λ w. absurd (omega
   where
     then-0 : c .running (first c d) .answer .running ≡ 0
     then-0 = x-is-named c d 0 (omega arith) (c .running (first c d) .answer .running)
-        (subst (λ (t : Table). Names 32 (running (Create 0 0 ∷ [])) (c .running t .answer .running)) (wrong (first c d) (creates 0) (at-first c d .memory) (any 0 (omega arith))) (after-first c d 0 (omega arith) .running-query .1))
+        (subst (λ (t : Table). Names 32 (runs (Create 0 0 ∷ [])) (c .running t .answer .running)) (wrong (first c d) (creates 0) (at-first c d .memory) (any 0 (omega arith))) (after-first c d 0 (omega arith) .running-query .1))
 
 -- another Create of the same thread is refused
 then-refused : (c : Calls) (d : Demand-2 c) → number-of c empty (event (creates 0) ∷ []) (creates 0) ≢ 0
@@ -155,6 +165,12 @@ then-answers-0 c wrong d = then-refused c d (wrong (table-after c empty (event (
 
     not-empty : table-after c empty (event (creates 0) ∷ []) ≢ empty
     not-empty e = absurd (omega (arith, now .shows .clock-is, ap (λ (u : Table). u .clock) e))
+
+-- at the first query
+pub spoils : (c : Calls) (q : Query) → Any-call (ask q) → Spoils c q → ¬ Demand-2 c
+spoils c running any wrong d = wrong (table-after c empty []) (at-first c d .memory) (after d memory {ks = ask running ∷ []} (any, tt) (asked none-yet) .sound)
+spoils c (thread th) any wrong d = wrong (table-after c empty []) (at-first c d .memory) (after d memory {ks = ask (thread th) ∷ []} (any, tt) (asked none-yet) .sound)
+spoils c (resource cs) any wrong d = wrong (table-after c empty []) (at-first c d .memory) (after d memory {ks = ask (resource cs) ∷ []} (any, tt) (asked none-yet) .sound)
 
 -- at the input where it is another
 pub invents-a-count : (c : Calls) → Invents-a-count c → ¬ As-stated c

@@ -1,4 +1,4 @@
--- What each call leaves on any table, sound or not: its numbers, fixed beforehand; all of it where it refuses; and that no query changes the table. Assumes nothing.
+-- What the step and the queries leave on any table, sound or not: their numbers, fixed beforehand; all of it where they refuse; and that no query changes the table. Assumes nothing.
 use Prim.Native.Nat.{ℕ, suc, _≤_, _<_}
 use mathlib.Core.Path.{_≡_}
 use Rattle.protocol.specs.Sets.{_∈_, Names}

@@ -4,10 +4,10 @@ use mathlib.Core.Path.{_≡_}
 use mathlib.Core.Logic.{_↔_}
 use lib.ListN.{length}
 use Rattle.protocol.specs.Sets.{_∈_, Names}
-use Rattle.protocol.specs.Events.{Thread, Resource, State, threads, priority, last-set}
+use Rattle.protocol.specs.Events.{Thread, Resource, State, threads, prec}
 use Rattle.protocol.specs.Schedule.{wq, holds, waits, cprec, running}
 use Rattle.table.specs.declared.Table.{Table}
-use Rattle.table.specs.Table.{at, live, stored, queues}
+use Rattle.table.specs.Table.{live, own, stored, queues}
 use Rattle.queries.specs.declared.RunningAnswer.{RunningAnswer}
 use Rattle.queries.specs.declared.ThreadAnswer.{ThreadAnswer}
 use Rattle.queries.specs.declared.ResourceAnswer.{ResourceAnswer}
@@ -18,9 +18,8 @@ pub record Shows (t : Table) (s : State) : Type 0 where
   pub clock-is : t .clock ≡ length s
   -- the live threads
   pub live-are : (th : Thread) → (th ∈ live t) ↔ (th ∈ threads s)
-  -- their own priorities and the times they were last set
-  pub priority-is : (th : Thread) → th ∈ threads s → at (t .priority) th ≡ priority th s
-  pub time-is : (th : Thread) → th ∈ threads s → at (t .time) th ≡ last-set th s
+  -- their own precedences: own priority, and time last set
+  pub own-is : (th : Thread) → th ∈ threads s → own t th ≡ prec th s
   -- the queues
   pub queues-are : (cs : Resource) → queues t cs ≡ wq s cs
   -- for each live thread the stored current precedence
@@ -33,8 +32,7 @@ Running-told s a = (a .number ≡ 0) × Names 32 (running s) (a .running)
 -- the thread query: 0 with own priority, set time, current precedence and the resource waited for, 16 if none
 pub record Thread-told (s : State) (th : Thread) (a : ThreadAnswer) : Type 0 where
   pub accepted : a .number ≡ 0
-  pub priority-is : a .priority ≡ priority th s
-  pub time-is : a .time ≡ last-set th s
+  pub own-is : (a .priority, a .time) ≡ prec th s
   pub current-is : cprec s th (a .«current_priority», a .«current_time»)
   pub waits-for : Names 16 (λ cs. waits s th cs) (a .«waits_for»)
 

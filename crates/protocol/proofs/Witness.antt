@@ -1,17 +1,18 @@
--- Two examples of demand 3, to be worked out on paper: what its definitions take in, and what they leave out. Assumes nothing.
-use Prim.Native.Nat.{zero, suc, _≤_}
+-- Two examples of demand 3, to be worked out on paper, and what its words take in and leave out. Assumes nothing.
+use Prim.Native.Nat.{zero, suc, _+_, _≤_}
 use mathlib.Core.Path.{_≡_, refl, sym, subst}
-use mathlib.Core.Bool.{false}
-use mathlib.Core.Option.{none, some}
+use mathlib.Core.Bool.{Bool, true, false, cond, not}
+use mathlib.Core.Option.{Option, none, some}
 use mathlib.Core.List.{List, [], _∷_, _++_}
-use mathlib.Core.Logic.{_⊎_, inl, inr, ⊎-elim}
+use mathlib.Core.Logic.{_≢_, _⊎_, inl, inr, ⊎-elim}
 use native.Mathlib.Omega.{arith}
 use lib.Dec.{eqb}
 use borrow.Author.Tests.{ne-eqb}
 use Rattle.protocol.specs.Sets.{SetOf, _∈_, set}
-use Rattle.protocol.specs.Events.{Thread, Resource, Event, Create, Exit, Set, P, «V», State, threads, priority, prec, _≼_}
+use Rattle.protocol.specs.Events.{Thread, Priority, Resource, Event, Create, Exit, Set, P, «V», State, threads, priority, prec, _≼_}
 use Rattle.protocol.specs.Schedule.{wq}
-use Rattle.protocol.specs.Demand3.{Moment, now, before, holds-or-waits, spares, calls, calls-of-others, others, Number, Until, so-far, over}
+use Rattle.protocol.specs.Rules.{may-follow}
+use Rattle.protocol.specs.Demand3.{Moment, now, before, holds-or-waits, spares, calls-by, calls, calls-of-others, others, Number, Until, so-far, over}
 use Rattle.protocol.proofs.Finite.{attached-in}
 use Rattle.protocol.proofs.Demand3.{until-one}
 
@@ -124,6 +125,10 @@ pub few : (u : Thread) → u ∈ others s 1 → (es : List Event) → Until u s 
 unfolding number
 few u o = any {M = λ u. (es : List Event) → Until u s s′ es → calls u es ≤ 2} ((λ es k. rw (until-one k until-0) (omega arith)) and (λ es k. rw (until-one k until-2) (omega arith)) and no-more) u (number .exactly u .1 o)
 
+one-of : (b : Bool) → cond (not b) 1 0 + cond b 1 0 ≡ 1
+one-of true = refl
+one-of false = refl
+
 -- an Exit, a Set, a P and a V are calls of the thread they name; a Create is nobody's
 pub each-kind-counts : calls 0 («V» 0 0 none ∷ P 0 0 ∷ Set 0 1 ∷ Exit 0 ∷ Create 0 1 ∷ []) ≡ 4
 each-kind-counts = refl
@@ -132,9 +137,19 @@ each-kind-counts = refl
 pub each-kind-of-others : calls-of-others 1 («V» 0 0 none ∷ P 0 0 ∷ Set 0 1 ∷ Exit 0 ∷ Create 0 1 ∷ []) ≡ 4
 each-kind-of-others = refl
 
--- kind by kind: what spares thread 1 of priority 5
-pub spares-these : spares 1 5 (Create 2 5) × spares 1 5 (Exit 2) × spares 1 5 (Set 2 5) × spares 1 5 (P 1 0) × spares 1 5 (P 2 0) × spares 1 5 («V» 1 0 none) × spares 1 5 («V» 2 0 none)
-spares-these = (omega arith, (λ q. omega arith), ((λ q. omega arith), omega arith), tt, tt, tt, tt)
+-- a call is the thread's or another's
+pub all-calls : (th : Thread) (es : List Event) → calls-of-others th es + calls th es ≡ calls-by (λ u. true) es
+all-calls th [] = refl
+all-calls th (Create x prio ∷ es) = all-calls th es
+all-calls th (Exit x ∷ es) = omega (arith, one-of (eqb x th), all-calls th es)
+all-calls th (Set x prio ∷ es) = omega (arith, one-of (eqb x th), all-calls th es)
+all-calls th (P x cs ∷ es) = omega (arith, one-of (eqb x th), all-calls th es)
+all-calls th («V» x cs next ∷ es) = omega (arith, one-of (eqb x th), all-calls th es)
+
+-- kind by kind, of any numbers: what spares th, of priority prio
+pub spares-these : (th th′ : Thread) (prio prio′ : Priority) (cs : Resource) (next : Option Thread) → prio′ ≤ prio →
+    spares th prio (Create th′ prio′) × (th′ ≢ th → spares th prio (Exit th′)) × (th′ ≢ th → spares th prio (Set th′ prio′)) × spares th prio (P th′ cs) × spares th prio («V» th′ cs next)
+spares-these th th′ prio prio′ cs next low = (low, (λ n. n), (λ n. (n, low)), tt, tt)
 
 -- and what does not: a priority above it, its end, and its being set anew
 pub spares-not-these : (¬ spares 1 5 (Create 2 6)) × (¬ spares 1 5 (Exit 1)) × (¬ spares 1 5 (Set 2 6)) × (¬ spares 1 5 (Set 1 5))
@@ -161,3 +176,7 @@ until-let-go = over (before now) idle (over now idle (so-far had))
 -- one call counts, of the three that it makes
 pub one-of-three : (calls 0 («V» 0 0 none ∷ []) ≡ 1) × (calls 0 s₂′ ≡ 3)
 one-of-three = (refl, refl)
+
+-- Any waiter may follow, as here the one of lowest precedence: document 01's choice is not the rules'.
+pub lowest-may-follow : may-follow (P 2 0 ∷ P 1 0 ∷ P 0 0 ∷ Create 2 1 ∷ Create 1 5 ∷ Create 0 9 ∷ []) 0 (some 2)
+lowest-may-follow = (inr (inr (inl refl)), λ q. omega arith)
