@@ -18,7 +18,7 @@ use Rattle.demands.proofs.Counted.{counts-one}
 use Rattle.demands.proofs.Demand2.{after}
 use Rattle.demands.proofs.TheCalls.{the-calls, demand-2-met}
 use Rattle.demands.proofs.OneTable.{one-table, one-running, one-running-answer, one-thread-answer, one-resource-answer}
-use Rattle.demands.proofs.OneNumber.{running-keeps, thread-as, thread-tells, resource-as, resource-tells}
+use Rattle.demands.proofs.OneNumber.{One, running-keeps, thread-as, thread-tells, resource-as, resource-tells}
 use Rattle.demands.proofs.AnyTable.{same-step as any-step}
 
 -- after the calls: the table, and what is left by whatever is called next
@@ -28,6 +28,10 @@ pub record As-named (c : Calls) (t : Table) (ks : List Call) : Type 0 where
   pub running : c .running (table-after c t ks) ≡ the-calls .running (table-after the-calls t ks)
   pub thread : (th : ℕ) → th ≤ 255 → c .thread (table-after c t ks) th ≡ the-calls .thread (table-after the-calls t ks) th
   pub resource : (cs : ℕ) → cs ≤ 255 → c .resource (table-after c t ks) cs ≡ the-calls .resource (table-after the-calls t ks) cs
+
+-- a query that is refused is told by demand 1, and one that is not by demand 2
+decided : {A : Type 0} (number : A → ℕ) {l k k′ : Left A} → One number l k → k ≡ k′ → l .table ≡ k′ .table → (number (l .answer) ≡ 0 → l .answer ≡ k′ .answer) → l ≡ k′
+decided number {l} {k} {k′} one on kept told = by-cases (ℕ-discrete (number (l .answer)) 0) (λ z i. record { answer = told z i; table = kept i }) (λ n. one .1 n ∙ on)
 
 module _ (c : Calls) (d₁ : Demand-1 c) (d₂ : Demand-2 c) (t : Table) (held : Any-table t) where
   -- the accepted events, and the table, are those of the functions that the contracts name
@@ -100,18 +104,15 @@ module _ (c : Calls) (d₁ : Demand-1 c) (d₂ : Demand-2 c) (t : Table) (held :
       table = (running-keeps (d₁ .running T (here .memory)) ∙ same ks any .1) i;
     }
 
-    -- a query that is refused is told by demand 1, and one that is not by demand 2
     same-thread : (th : ℕ) → th ≤ 255 → c .thread T th ≡ the-calls .thread T′ th
-    same-thread th h = let a = d₁ .thread T th (here .memory) h in let tells = thread-tells a in by-cases (ℕ-discrete (c .thread T th .answer .number) 0)
-        (λ z. let l = here .shows .live-are th .0 (tells .1 z) in
-        λ i. record { answer = one-thread-answer (here .by-rules) th (c .thread T th .answer) (the-calls .thread T′ th .answer) (here .thread-query th l) (there .thread-query th l) i; table = (tells .0 ∙ same ks any .1) i })
-        (λ n. thread-as (here .memory) th (c .thread T th) a .1 n ∙ ap (λ (u : Table). the-calls .thread u th) (same ks any .1))
+    same-thread th h = let a = d₁ .thread T th (here .memory) h in let tells = thread-tells a in
+        decided (λ x. x .number) (thread-as (here .memory) th (c .thread T th) a) (ap (λ (u : Table). the-calls .thread u th) (same ks any .1)) (tells .0 ∙ same ks any .1)
+        (λ z. let l = here .shows .live-are th .0 (tells .1 z) in one-thread-answer (here .by-rules) th (c .thread T th .answer) (the-calls .thread T′ th .answer) (here .thread-query th l) (there .thread-query th l))
 
     same-resource : (cs : ℕ) → cs ≤ 255 → c .resource T cs ≡ the-calls .resource T′ cs
-    same-resource cs h = let a = d₁ .resource T cs (here .memory) h in let tells = resource-tells a in by-cases (ℕ-discrete (c .resource T cs .answer .number) 0)
-        (λ z. let l = tells .1 z in
-        λ i. record { answer = one-resource-answer (here .by-rules) cs (c .resource T cs .answer) (the-calls .resource T′ cs .answer) (here .resource-query cs l) (there .resource-query cs l) i; table = (tells .0 ∙ same ks any .1) i })
-        (λ n. resource-as (here .memory) cs (c .resource T cs) a .1 n ∙ ap (λ (u : Table). the-calls .resource u cs) (same ks any .1))
+    same-resource cs h = let a = d₁ .resource T cs (here .memory) h in let tells = resource-tells a in
+        decided (λ x. x .number) (resource-as (here .memory) cs (c .resource T cs) a) (ap (λ (u : Table). the-calls .resource u cs) (same ks any .1)) (tells .0 ∙ same ks any .1)
+        (λ z. let l = tells .1 z in one-resource-answer (here .by-rules) cs (c .resource T cs .answer) (the-calls .resource T′ cs .answer) (here .resource-query cs l) (there .resource-query cs l))
 
 -- whatever meets the demands does, from the empty table on, what the contracts say
 pub nothing-free : (c : Calls) → Demand-1 c → Demand-2 c → (t : Table) → Any-table t → (ks : List Call) → Any-calls ks → As-named c t ks
