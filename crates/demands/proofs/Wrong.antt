@@ -166,6 +166,10 @@ then-answers-0 c wrong d = then-refused c d (wrong (table-after c empty (event (
     not-empty : table-after c empty (event (creates 0) ∷ []) ≢ empty
     not-empty e = absurd (omega (arith, now .shows .clock-is, ap (λ (u : Table). u .clock) e))
 
+-- One that for any one table that it is lent starts from a table that isn't sound does not: before any record.
+pub starts-spoilt : (c : Calls) (t : Table) → Any-table t → ¬ Sound (c .empty t) → ¬ Demand-2 c
+starts-spoilt c t held wrong d = wrong (d t held [] tt .1 .sound)
+
 -- at the first query
 pub spoils : (c : Calls) (q : Query) → Any-call (ask q) → Spoils c q → ¬ Demand-2 c
 spoils c running any wrong d = wrong (table-after c empty []) (at-first c d .memory) (after d memory {ks = ask running ∷ []} (any, tt) (asked none-yet) .sound)
