@@ -1,14 +1,19 @@
 -- What a part of the input leaves over is carried on: a part and then the rest are the whole. Assumes nothing.
-use Prim.Native.Nat.{ℕ, _+_, _≤_, _<_}
+use Prim.Native.Nat.{ℕ, _+_, _-_, _≤_, _<_}
 use mathlib.Core.Path.{_≡_, refl, sym, ap, _∙_}
+use mathlib.Core.Bool.{true}
 use mathlib.Core.List.{List, [], _∷_, _++_, append-assoc, append-nil}
 use native.Mathlib.Numerals.{add-one}
+use native.Mathlib.Decide.{decLt}
 use native.Mathlib.Omega.{arith}
-use lib.ListN.{length, take, getD}
-use lib.Seq.{paste, take-paste, take-suc}
+use lib.ListN.{length, take, drop, getD, length-take, length-drop}
+use lib.Seq.{paste, take-paste, take-suc, length-take-le, take-take, take-add}
 use Rattle.listing.specs.declared.Text.{Text}
 use Rattle.drill.specs.declared.Bench.{Bench}
+use Rattle.drill.specs.declared.Part.{Part}
 use Rattle.drill.specs.Bytes.{fed, said, after, out}
+use Rattle.drill.specs.declared.printing.Printed.{Printed}
+use Rattle.drill.specs.Parts.{Drills, Prints}
 use Rattle.drill.proofs.Feeding.{Feeds}
 
 pub after-append : (s : Bench) (xs ys : List ℕ) → after s (xs ++ ys) ≡ after (after s xs) ys
@@ -48,3 +53,33 @@ turn s input room now after-it x used len k h l e f =
       lines = take-paste room len (x .bytes) (x .len) l (omega (arith, f .1 .fits)) ∙ rw (k .lines, f .1 .text, more, out-append s (take used input) (getD input used 0 ∷ []), one-out (after s (take used input)) (getD input used 0), k .carried);
       carried = f .0 ∙ rw (k .carried, more, after-append s (take used input) (getD input used 0 ∷ []), one-after (after s (take used input)) (getD input used 0));
     }
+
+-- no bytes give no lines
+none-out : (s : Bench) (input : List ℕ) (u : ℕ) → u ≡ 0 → length (out s (take u input)) ≡ 0
+unfolding out
+none-out s input u e = rw e
+
+-- Where there is room for a line, some of the input goes in.
+pub goes-on : {s : Bench} {input room : List ℕ} {r : Part} → Drills s input room r → 48 ≤ length room → 0 < length input → 0 < r .used
+goes-on {s} {input} {room} {r} d h k = go (decLt 0 (r .used))
+  where
+    go : Dec (0 < r .used) → 0 < r .used
+    go (yes l) = l
+    go (no l) =
+        let none : r .used ≡ 0 = omega (arith, l) in
+        let empty : r .len ≡ 0 = sym (length-take-le (r .len) room (d .fits)) ∙ ap length (d .lines) ∙ none-out s input (r .used) none in
+        absurd (omega (arith, none, k, d .all (omega (arith, empty, h))))
+
+-- nothing is used yet
+pub start-after : (s : Bench) → s ≡ after s []
+unfolding after
+start-after s = refl
+
+-- A part goes on from where it stopped: it takes some of what is left, and the bench is the one after all that is used.
+pub goes-on-from : (s : Bench) (input : List ℕ) (used : ℕ) {now : Bench} {r : Printed} → used < length input → now ≡ after s (take used input)
+    → Prints now (take (length input - used) (drop used input)) r → r .well ≡ true
+    → (used + r .used ≤ length input) × (0 < r .used) × (r .bench ≡ after s (take (used + r .used) input))
+goes-on-from s input used {now} {r} h e p well =
+    let long : length (take (length input - used) (drop used input)) ≡ length input - used = omega (arith, length-take (length input - used) (drop used input), length-drop used input) in
+    let within : r .used ≤ length input - used = omega (arith, long, p .within) in
+    (omega (arith, within), p .some (omega (arith, long)), p .carried well ∙ rw (take-take (r .used) (length input - used) (drop used input) within, e, take-add used (r .used) input, after-append s (take used input) (take (r .used) (drop used input))))

@@ -1,5 +1,5 @@
 // Records in, lines out, over slices. See specs/ for what the lines are.
-pub mod streams;
+pub mod printing;
 
 ghost use mathlib.Core.Path.{_≡_};
 ghost use mathlib.Core.List.{[]};

@@ -3,12 +3,18 @@
 use drill::Bench;
 use drill::Fed;
 use drill::feed;
-use drill::streams::print;
+use drill::printing::print;
 use listing::header;
 use locks::Record;
 
 // The accepted events that come before the edge, after the first Create.
 const SETS: u32 = 65533;
+
+// A bench, and whether its lines are all written.
+struct Shown {
+    bench: Bench,
+    well: bool,
+}
 
 // A record whose fourth byte is 0.
 fn give(s: Bench, kind: u8, thread: u8, argument: u8) -> Fed {
@@ -18,11 +24,15 @@ fn give(s: Bench, kind: u8, thread: u8, argument: u8) -> Fed {
     feed(third.bench, 0)
 }
 
-// The same, with its line printed.
-fn show(s: Bench, kind: u8, thread: u8, argument: u8) -> Bench {
-    let fed = give(s, kind, thread, argument);
-    print(fed.text);
-    fed.bench
+// The same, with its line printed if those before it were.
+fn show(s: Shown, kind: u8, thread: u8, argument: u8) -> Shown {
+    let before = s.bench;
+    let fed = give(before, kind, thread, argument);
+    let after = fed.bench;
+    Shown {
+        bench: after,
+        well: s.well && print(fed.text, before.number),
+    }
 }
 
 // Thread 0 sets its priority over and over.
@@ -38,7 +48,7 @@ fn age(s: Bench) -> Bench {
 }
 
 // At 65,535 each kind gives 5, unless 2, 3 or 4 catches it.
-fn stopped(s: Bench) {
+fn stopped(s: Shown) -> Shown {
     let created = show(s, Record::CREATE, 2, 9);
     let exited = show(created, Record::EXIT, 0, 0);
     let set = show(exited, Record::SET, 0, 9);
@@ -46,12 +56,18 @@ fn stopped(s: Bench) {
     let released = show(requested, Record::V, 0, 0);
     let unknown = show(released, 6, 0, 0);
     let nobody = show(unknown, Record::CREATE, 32, 9);
-    show(nobody, Record::P, 0, 16);
+    show(nobody, Record::P, 0, 16)
 }
 
 fn main() {
-    print(header());
     let created = give(Bench::start(), Record::CREATE, 0, 1);
-    let aged = age(created.bench);
-    stopped(show(aged, Record::CREATE, 1, 9));
+    let aged = Shown {
+        bench: age(created.bench),
+        well: print(header(), 0),
+    };
+    let last = stopped(show(aged, Record::CREATE, 1, 9));
+    let bench = last.bench;
+    if last.well {
+        streams::close_output(bench.number);
+    }
 }

@@ -1,26 +1,38 @@
-// Drills each of the inputs in data/ by name, one listing after the other.
-use drill::streams::print_listing;
+// Drills each of the inputs in data/ by name, one listing after the other, up to the first that can't be listed whole.
+use drill::printing::print_listing;
+use streams::fail;
 
-fn vector(path: &[u8]) {
+// Lists the input of that name, and answers whether it is listed whole.
+fn list(path: &[u8]) -> bool {
     let fd = os::open_read(path);
     if fd < 0 {
-        os::fail(path);
-        return;
+        fail(path, 0);
+        return false;
     }
-    print_listing(fd);
+    let listed = print_listing(fd, path);
     libc::close(fd);
+    listed.whole
+}
+
+fn list_all() -> bool {
+    list(b"bytes_1025.in")
+        && list(b"bytes_1026.in")
+        && list(b"chain_of_16.in")
+        && list(b"contended.in")
+        && list(b"empty.in")
+        && list(b"four_threads.in")
+        && list(b"junk.in")
+        && list(b"large.in")
+        && list(b"listing.in")
+        && list(b"small.in")
+        && list(b"tail_1.in")
+        && list(b"tail_2.in")
+        && list(b"tail_3.in")
+        && list(b"ties.in")
 }
 
 fn main() {
-    vector(b"chain_of_16.in");
-    vector(b"contended.in");
-    vector(b"empty.in");
-    vector(b"four_threads.in");
-    vector(b"junk.in");
-    vector(b"listing.in");
-    vector(b"small.in");
-    vector(b"tail_1.in");
-    vector(b"tail_2.in");
-    vector(b"tail_3.in");
-    vector(b"ties.in");
+    if list_all() {
+        streams::close_output(0);
+    }
 }

@@ -1,7 +1,10 @@
 // Reads records from standard input, from the empty table on, and prints the listing of their answers.
-use drill::streams::print_listing;
+use drill::printing::print_listing;
 use libc::STDIN_FILENO;
 
 fn main() {
-    print_listing(STDIN_FILENO);
+    let listed = print_listing(STDIN_FILENO, b"standard input");
+    if listed.whole {
+        streams::close_output(listed.records);
+    }
 }

@@ -1,5 +1,5 @@
 -- `drill::drill` meets its contract. The loop's invariant: so far, the lines of the bytes that went in. Assumes nothing.
-use Prim.Native.Nat.{_-_, _*_, _≤_}
+use Prim.Native.Nat.{_-_, _≤_}
 use mathlib.Core.Path.{_≡_, _∙_}
 use native.Mathlib.Omega.{arith}
 use borrow.Author.Needs.{needs}
@@ -10,13 +10,13 @@ use Rattle.drill.proofs.drill.Tie as tie
 
 abbrev Inv-loop : tie.InvT-loop
 Inv-loop input out₀ bench₀ used₀ len₀ out bench used len =
-    (used ≤ length input) × (len ≤ length out) × (length out ≡ length out₀) × (len ≤ 48 * used) × SoFar bench₀ input out bench used len
+    (used ≤ length input) × (len ≤ length out) × (length out ≡ length out₀) × SoFar bench₀ input out bench used len
 
 abbrev μ-loop : tie.MeasureT-loop
 μ-loop input out₀ bench₀ used₀ len₀ out bench used len = length input - used
 
 loop-holds : tie.Need-loop-holds Inv-loop μ-loop
-loop-holds c = (omega arith, omega arith, search needs, omega arith, none-yet _ _ _)
+loop-holds c = (omega arith, omega arith, search needs, none-yet _ _ _)
 
 sub-if1 : tie.Need-sub-if1 Inv-loop μ-loop
 sub-if1 c = omega arith
@@ -53,7 +53,7 @@ loop-again c =
     let kept : length (p .last .1 .1 .0) ≡ length (l .out) = p .kept .1 .1 .0 in
     let fits = f .ensures .1 .fits in
     let inside = shared-slice-read-feed (c .before .before .before .before .before .before .before .before .before) in
-    (omega (arith, inside), omega (arith, fits, kept), kept ∙ l .inv .2, omega (arith, fits, l .inv .3), rw (p .ensures) (turn (a .s) (a .input .now) (l .out) (l .bench) (f .result .bench) (f .result .text) (l .used) (l .len) (l .inv .4) inside (l .inv .1) e (f .ensures)))
+    (omega (arith, inside), omega (arith, fits, kept), kept ∙ l .inv .2, rw (p .ensures) (turn (a .s) (a .input .now) (l .out) (l .bench) (f .result .bench) (f .result .text) (l .used) (l .len) (l .inv .3) inside (l .inv .1) e (f .ensures)))
 
 same-length : tie.Need-same-length Inv-loop μ-loop
 same-length c = c .before .loop .inv .2
@@ -61,7 +61,7 @@ same-length c = c .before .loop .inv .2
 returns : tie.Need-returns Inv-loop μ-loop
 returns c =
     let i = c .before .loop .inv in
-    record { within = i .0; fits = i .1; lines = i .4 .lines; carried = i .4 .carried; all = λ h. omega arith }
+    record { within = i .0; fits = i .1; lines = i .3 .lines; carried = i .3 .carried; all = λ h. omega arith }
 
 same-length-2 : tie.Need-same-length-2 Inv-loop μ-loop
 same-length-2 c = c .before .before .loop .inv .2
@@ -69,7 +69,7 @@ same-length-2 c = c .before .before .loop .inv .2
 returns-2 : tie.Need-returns-2 Inv-loop μ-loop
 returns-2 c =
     let i = c .before .before .loop .inv in
-    record { within = i .0; fits = i .1; lines = i .4 .lines; carried = i .4 .carried; all = λ h. omega arith }
+    record { within = i .0; fits = i .1; lines = i .3 .lines; carried = i .3 .carried; all = λ h. omega arith }
 
 pub drill-spec : {M : Type 1} → statement M
 drill-spec =

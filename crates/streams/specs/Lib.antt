@@ -1,0 +1,2 @@
+-- Which errors of the system pass.
+pub mod Errors
