@@ -2,6 +2,7 @@
    and all bytes of the tables must be equal.
      differ [--seed N] [--tests N] [--only N]       tests 1 to N of a seed (6,000 of a fresh one), or only test N
      differ --drill model|fast|library FILE..       the listing of each file of records, by one side */
+#include <errno.h>
 #include <stdio.h>
 #include <stdlib.h>
 #include <string.h>
@@ -318,23 +319,45 @@ static int drills(const char *name, char **paths)
     return 2;
 }
 
+/* The number after an option, or the end of the program: strtoull alone takes "abc" for 0 and "-1" for 2^64 - 1. */
+static unsigned long long number(char **words)
+{
+    char *end = 0;
+    errno = 0;
+    unsigned long long n = words[1] == 0 ? 0 : strtoull(words[1], &end, 10);
+    if (words[1] != 0 && words[1][0] >= '0' && words[1][0] <= '9' && *end == 0 && errno == 0)
+        return n;
+    if (words[1] == 0)
+        fprintf(stderr, "differ: %s needs a number below 2^64\n", words[0]);
+    else
+        fprintf(stderr, "differ: %s needs a number below 2^64, not \"%s\"\n", words[0], words[1]);
+    exit(2);
+}
+
+static int usage(FILE *to, int status)
+{
+    fprintf(to, "differ [--seed N] [--tests N] [--only N]\ndiffer --drill model|fast|library FILE..\n");
+    return status;
+}
+
 int main(int argc, char **argv)
 {
     unsigned long long from = 1, to = 6000;
     run.seed = (unsigned long long)time(0);
     for (int i = 1; i < argc; i++) {
-        const char *value = i + 1 < argc ? argv[i + 1] : 0;
-        if (strcmp(argv[i], "--drill") == 0 && value != 0)
-            return drills(value, argv + i + 2);
-        if (strcmp(argv[i], "--seed") == 0 && value != 0)
-            run.seed = strtoull(value, 0, 10), i++;
-        else if (strcmp(argv[i], "--tests") == 0 && value != 0)
-            to = strtoull(value, 0, 10), i++;
-        else if (strcmp(argv[i], "--only") == 0 && value != 0)
-            from = to = strtoull(value, 0, 10), i++;
+        if (strcmp(argv[i], "--drill") == 0)
+            return i + 1 < argc ? drills(argv[i + 1], argv + i + 2) : usage(stderr, 2);
+        if (strcmp(argv[i], "--seed") == 0)
+            run.seed = number(argv + i++);
+        else if (strcmp(argv[i], "--tests") == 0)
+            to = number(argv + i++);
+        else if (strcmp(argv[i], "--only") == 0)
+            from = to = number(argv + i++);
+        else if (strcmp(argv[i], "--help") == 0)
+            return usage(stdout, 0);
         else {
-            printf("differ [--seed N] [--tests N] [--only N]\ndiffer --drill model|fast|library FILE..\n");
-            return strcmp(argv[i], "--help") == 0 ? 0 : 2;
+            fprintf(stderr, "differ: no such option: %s\n", argv[i]);
+            return usage(stderr, 2);
         }
     }
     return tests(from, to);

@@ -1,23 +1,77 @@
 /* The lock table: a priority inheritance protocol for one processor.
  *
- * You keep the only table and lend it to each call. It must be a whole `struct locktable` that nobody else touches during the call. What bytes
- * it holds does not matter: a table that isn't sound is refused. No call keeps the pointer, allocates or waits, and each comes to an end.
+ * It keeps account of up to 32 threads and 16 resources (locks), and says who is to run. Your kernel reports
+ * each event: a thread begins, ends, gets another priority, requests a resource or releases one. The answer
+ * tells whether the event is accepted, and which thread is to run then. Whoever holds a resource is at least
+ * as urgent as everybody who is blocked behind it.
  *
- * For C11 or C++11 on x86-64; link liblocktable.a (README.md, "From C"). A call needs of its caller:
- *   - memcpy and memset;
- *   - the stack aligned to 16 bytes, as the ABI of x86-64 has it, since the library stores there by aligned SSE instructions: a kernel that is
- *     compiled for a boundary of 8 (-mpreferred-stack-boundary=3) would fault;
- *   - SSE2 switched on, and the registers xmm0 to xmm15 saved by whoever still needs what they hold;
- *   - up to 2 KiB of stack (measured; bench/FIGURES.md). The red zone is used, the 128 bytes below the stack pointer: no interrupt may write there.
+ * You keep the table, a `struct locktable` of 754 bytes, and lend it to each call. Begin with
+ * locktable_empty; then call locktable_step for each event. Three queries read the table. examples/kernel.c
+ * is a toy kernel.
  *
- * What this file says of the calls is proved, for every table and every argument: in crates/locktable/src/lib.rt that a call does to the lent table
- * what the function does that has it by value; in crates/locks/src/step.rt and crates/queries/src/lib.rt what that function answers and makes of
- * the table, in the terms that the specs of crates locks, queries, events, refusals and table define; in crates/demands that this is the paper's
- * protocol, and what every call leaves on any table (specs/Fixed.antt): that an accepted event leaves a sound table, and that a count is at most 16,
- * are there too. What a caller needs, above, and the layout,
- * below, are not proved. */
+ * For C11 or C++11 and later, on x86-64; link liblocktable.a (README.md, "From C").
+ *
+ * WHAT A CALL NEEDS OF ITS CALLER
+ *   - The table: a whole `struct locktable` that nobody else touches during the call. What bytes it holds
+ *     does not matter: a table that isn't sound is refused. locktable_empty and locktable_step need it
+ *     writable, also where the step is refused: then too it stores all the bytes back, as they were. The
+ *     queries only read the table, so for them it may lie in read-only memory.
+ *   - memcpy and memset. The archive refers to nothing else outside it.
+ *   - The stack aligned to 16 bytes, as the ABI of x86-64 has it, since the library stores there by aligned
+ *     SSE instructions: a kernel that is compiled for a boundary of 8 (-mpreferred-stack-boundary=3) would
+ *     fault.
+ *   - SSE2 switched on, and the registers xmm0 to xmm15 saved by whoever still needs what they hold.
+ *     Arguments and answers go by general registers, so the caller may be compiled without SSE
+ *     (-mgeneral-regs-only).
+ *   - Up to 2 KiB of stack (measured; bench/FIGURES.md). The red zone is used, the 128 bytes below the stack
+ *     pointer: no interrupt may write there.
+ *   - Indirect branch tracking (IBT, a part of CET) switched off during the call. No function here begins
+ *     with endbr64, and locktable_step has an indirect jump inside: it would fault even if it is called
+ *     directly. The archive is not marked as fit for IBT (it has no .note.gnu.property).
+ *
+ * There is no .eh_frame, and rbp is used like any other register: a debugger or an unwinder that looks in the
+ * midst of a call may not find its callers. There are no stack canaries and no retpolines.
+ *
+ * WHAT IT PROMISES
+ *   - Each call comes to an end. It doesn't allocate, doesn't wait and doesn't keep the pointer.
+ *   - The table is the only state: the archive has no data that is written. So tables are independent, and
+ *     calls on different ones may be in progress at once, on two processors or in an interrupt that comes
+ *     during a call. (What is said above of the xmm registers and the red zone holds for that interrupt too.)
+ *   - A step takes some 2,000 to 3,000 instructions on tables as they come up, and fewer than 7,000 on the
+ *     worst that was found. A query takes fewer than a step on the same table. bench/FIGURES.md has the
+ *     figures. They are measured, and the worst is looked for, not proved.
+ *   - What the calls do and answer, as this file says it, is proved for every table and every argument: in
+ *     crates/locktable/src/lib.rt that a call does to the lent table what the function does that has it by
+ *     value; in crates/locks/src/step.rt and crates/queries/src/lib.rt what that function answers and makes
+ *     of the table, in the terms that the specs of crates locks, queries, events, refusals and table define;
+ *     in crates/demands that this is the paper's protocol, and what every call leaves on any table
+ *     (specs/Fixed.antt): that an accepted event leaves a sound table, and that a count is at most 16, are
+ *     there too.
+ *   - Not proved are what a call needs, its time, that there is no other state, how long a drain takes and
+ *     the layout (the last two are below). bench/run tries them. */
 #ifndef LOCKTABLE_H
 #define LOCKTABLE_H
+
+/* Raised by one whenever something changes that a program could notice: a layout, a kind of event, a number
+ * in an answer, what a call takes, does or answers, or which calls there are. Other words and faster code
+ * leave it as it is. Version 1 has five kinds of event and five calls. The archive has no such number in it:
+ * take both from the same tree. */
+#define LOCKTABLE_VERSION 1
+
+/* The calls go by the System V convention of x86-64, whatever the compiler's own one is: UEFI and Windows
+ * have another, and so has -mabi=ms. A pointer to a call needs the same word in its type. A compiler that has
+ * no such word is taken to go by System V, except on Windows. */
+#if defined __ILP32__ || !(defined __x86_64__ || defined _M_X64)
+#error "locktable.h: the archive is code for x86-64 with 64-bit pointers; this compiler makes other code"
+#define LOCKTABLE_ABI
+#elif defined __GNUC__ || defined __clang__
+#define LOCKTABLE_ABI __attribute__((sysv_abi))
+#elif defined _WIN32
+#error "locktable.h: this compiler calls by another convention than System V, and cannot be told otherwise"
+#define LOCKTABLE_ABI
+#else
+#define LOCKTABLE_ABI
+#endif
 
 #include <stddef.h>
 #include <stdint.h>
@@ -32,23 +86,31 @@ extern "C" {
 #define LOCKTABLE_NOBODY 32    /* stands for no thread */
 #define LOCKTABLE_NOTHING 16   /* stands for no resource */
 
-/* Own precedence is how urgent a thread is by itself: its priority, and the time when that was last set. The greater priority is the higher
- * precedence, and between equal priorities the one that was set first.
- * Current precedence is how urgent it is for the sake of others too: where somebody is blocked behind it, at what it holds or further down a
- * chain of holders who wait, it is the highest own precedence among all these and itself. Otherwise it is its own.
- * Ready is a live thread that doesn't wait. Running is, of the ready threads, the one whose current precedence is the highest; in a sound table
- * with any live thread there is just one.
+/* THE TABLE
  *
- * The table. Read it if you like, by the queries better; only locktable_step and locktable_empty should write it. */
+ * Own precedence is how urgent a thread is by itself: its priority, and the time when that was last set. The
+ * greater priority is the higher precedence, and between equal priorities the one that was set first.
+ *
+ * Current precedence is how urgent it is for the sake of others too: where somebody is blocked behind it, at
+ * what it holds or further down a chain of holders who wait, it is the highest own precedence among all these
+ * and itself. Otherwise it is its own.
+ *
+ * Ready is a live thread that doesn't wait. Running is, of the ready threads, the one whose current
+ * precedence is the highest; in a sound table with any live thread there is just one.
+ *
+ * Read the table if you like, by the queries better; only locktable_step and locktable_empty should write
+ * it. */
 struct locktable {
-    uint16_t clock;                               /* how many events were accepted, and the time of the next one */
-    uint8_t live[LOCKTABLE_THREADS];              /* 1 for a live thread, else 0 */
-    uint8_t priority[LOCKTABLE_THREADS];          /* own precedence: the priority */
-    uint16_t time[LOCKTABLE_THREADS];             /* and when a Create or Set gave it */
-    uint8_t current_priority[LOCKTABLE_THREADS];  /* current precedence: the same two */
+    /* how many events were accepted, and the time of the next one */
+    uint16_t clock;
+    uint8_t live[LOCKTABLE_THREADS];             /* 1 for a live thread, else 0 */
+    uint8_t priority[LOCKTABLE_THREADS];         /* own precedence: the priority */
+    uint16_t time[LOCKTABLE_THREADS];            /* and when a Create or Set gave it */
+    uint8_t current_priority[LOCKTABLE_THREADS]; /* current precedence: the same two */
     uint16_t current_time[LOCKTABLE_THREADS];
-    uint8_t queue[LOCKTABLE_RESOURCES * LOCKTABLE_THREADS]; /* 32 places a resource: the holder, then who waits, by arrival */
-    uint8_t length[LOCKTABLE_RESOURCES];          /* how many of a resource's places are taken */
+    /* 32 places a resource: the holder, then who waits, by arrival */
+    uint8_t queue[LOCKTABLE_RESOURCES * LOCKTABLE_THREADS];
+    uint8_t length[LOCKTABLE_RESOURCES];         /* how many of a resource's places are taken */
 };
 
 /* A table is sound if all of this holds:
@@ -60,13 +122,24 @@ struct locktable {
  *   - the current precedence in the table is, for each live thread, the one that is described above.
  * The empty table is sound, and an event that is accepted leaves a sound table. */
 
-/* The kinds of event. Create may come from anyone, the others only from the running thread. "Now" is the clock before the event. */
+/* EVENTS
+ *
+ * Create may come from anyone, the others only from the running thread. "Now" is the clock before the
+ * event. */
 enum locktable_kind {
-    LOCKTABLE_CREATE = 1, /* a thread that isn't live becomes so, its priority (the argument) set now; an id may come back after its Exit */
-    LOCKTABLE_EXIT = 2,   /* the thread, which holds nothing, is live no more, and all its numbers become 0; the argument is 0 */
-    LOCKTABLE_SET = 3,    /* the argument becomes its priority, set now, even if it was the same before */
-    LOCKTABLE_P = 4,      /* it requests a resource (the argument): it joins the end of the queue, and so holds the resource if that was free */
-    LOCKTABLE_V = 5       /* it releases one: of those who wait the one of highest own precedence becomes holder, the rest keep their order */
+    /* A thread that isn't live becomes so, its priority (the argument) set now. An id may come back after its
+     * Exit. */
+    LOCKTABLE_CREATE = 1,
+    /* The thread, which holds nothing, is live no more, and all its numbers become 0. The argument is 0. */
+    LOCKTABLE_EXIT = 2,
+    /* The argument becomes its priority, set now, even if it was the same before. */
+    LOCKTABLE_SET = 3,
+    /* It requests a resource (the argument): it joins the end of the queue, and so holds the resource if that
+     * was free. */
+    LOCKTABLE_P = 4,
+    /* It releases one: of those who wait the one of highest own precedence becomes holder, the rest keep
+     * their order. */
+    LOCKTABLE_V = 5
 };
 
 /* An event: four bytes, the last of them 0. */
@@ -74,26 +147,55 @@ struct locktable_record {
     uint8_t kind, thread, argument, zero;
 };
 
-/* The number in an answer: accepted, or why not. Where several apply it is the lowest. */
+/* REFUSALS
+ *
+ * The number in an answer: accepted, or why not. Where several apply it is the lowest. */
 enum locktable_number {
     LOCKTABLE_ACCEPTED = 0,
     LOCKTABLE_NOT_SOUND = 1,      /* the table isn't sound */
     LOCKTABLE_NO_SUCH_KIND = 2,   /* the kind is none of the five */
     LOCKTABLE_NO_SUCH_THREAD = 3, /* the thread is above 31 */
-    LOCKTABLE_MALFORMED = 4,      /* P, V or a query of a resource above 15; Exit with an argument that isn't 0; a fourth byte that isn't 0 */
+    /* P, V or a query of a resource above 15; Exit with an argument that isn't 0;
+     * a fourth byte that isn't 0 */
+    LOCKTABLE_MALFORMED = 4,
     LOCKTABLE_CLOCK_RUN_OUT = 5,  /* the table has accepted all its 65,535 events */
     LOCKTABLE_ALREADY_LIVE = 6,   /* Create of a live thread */
     LOCKTABLE_NOT_LIVE = 7,       /* any other event, or a query, of a thread that isn't live */
     LOCKTABLE_NOT_RUNNING = 8,    /* any event but Create of a live thread that isn't the running one */
-    LOCKTABLE_CIRCLE = 9,         /* P by the holder, or where the holder waits, be it through a chain of others, for the thread that asks */
+    /* P by the holder, or where the holder waits, be it through a chain of others,
+     * for the thread that asks */
+    LOCKTABLE_CIRCLE = 9,
     LOCKTABLE_NOT_HOLDER = 10,    /* V by a thread that isn't the holder */
     LOCKTABLE_STILL_HOLDS = 11    /* Exit by a thread that holds any resource */
 };
 
-/* number: an enum locktable_number. running: the running thread of the table afterwards, or LOCKTABLE_NOBODY. count: for how many threads the
- * current precedence was worked out anew, 0 to 16. Create and Set: 1. Exit: 0. V: 2 if somebody takes over, for both of them, else 0. P: 0 if
- * the resource was free; else one for its holder, one for the holder whom that one waits for, and so on up. The last to be counted is the
- * first whose current precedence the request leaves alone, or else the one at the top, who doesn't wait. */
+/* THE END OF A TABLE
+ *
+ * When the clock has come to 65,535 no event is accepted any more, not even V or Exit: each is refused with
+ * LOCKTABLE_CLOCK_RUN_OUT or a lower number, and whoever holds a resource keeps it. So a kernel sees to it
+ * that all is released before, and then begins anew with locktable_empty. The end can be seen coming, since
+ * the field clock may be read: LOCKTABLE_EVENTS_LEFT(&table) is how many events are left, an int from 0 to
+ * 65,535. Of a table that isn't sound it says nothing. */
+#define LOCKTABLE_EVENTS_LEFT(t) (LOCKTABLE_EVENTS - (t)->clock)
+
+/* To drain a table is to go on with V and Exit alone until nobody is live. One of the two is always accepted:
+ * the running thread waits for nothing, so it can release what it holds, and end when it holds nothing. Each
+ * V takes one thread out of one queue, and each Exit ends one thread. So a drain takes as many events as all
+ * lengths add up to, and one more for each live thread.
+ *
+ * That is never above 79: at most 16 hold, one for each resource; at most 31 wait, since nobody waits for two
+ * resources and the running thread for none; and at most 32 are live. So a kernel that allows Create, Set and
+ * P only while LOCKTABLE_EVENTS_LEFT is above LOCKTABLE_DRAIN can always drain its table. (Tried, not
+ * proved.) */
+#define LOCKTABLE_DRAIN 79
+
+/* ANSWERS
+ *
+ * number: an enum locktable_number. running: the running thread of the table afterwards, or LOCKTABLE_NOBODY.
+ * count: for how many threads the current precedence was worked out anew, 0 to 16. Create and Set: 1. Exit:
+ * 0. V: 2 if somebody takes over, for both of them, else 0. P: 0 if the resource was free; else one for its
+ * holder, one for the holder whom that one waits for, and so on up. The last to be counted is the first whose
+ * current precedence the request leaves alone, or else the one at the top, who doesn't wait. */
 struct locktable_answer {
     uint8_t number, running, count;
 };
@@ -114,34 +216,43 @@ struct locktable_resource_answer {
     uint8_t number, holder, waiters;
 };
 
-/* To begin with: whatever the table held, all its numbers are 0 afterwards and nobody is live. */
-void locktable_empty(struct locktable *t);
+/* CALLS
+ *
+ * To begin with: whatever the table held, all its numbers are 0 afterwards and nobody is live. */
+LOCKTABLE_ABI void locktable_empty(struct locktable *t);
 
-/* One event, as one whole step. Accepted: the table is changed as is said above for that kind of event, then every live thread's current
- * precedence is the one described, the clock is 1 higher, and the table is sound again. Refused: the table is as it was, the count is 0, and
- * the running thread is that table's, except that LOCKTABLE_NOT_SOUND reports LOCKTABLE_NOBODY. */
-struct locktable_answer locktable_step(struct locktable *t, struct locktable_record e);
+/* One event, as one whole step. Accepted: the table is changed as is said above for that kind of event, then
+ * every live thread's current precedence is the one described, the clock is 1 higher, and the table is sound
+ * again. Refused: the table is as it was, the count is 0, and the running thread is that table's, except that
+ * LOCKTABLE_NOT_SOUND reports LOCKTABLE_NOBODY. */
+LOCKTABLE_ABI struct locktable_answer locktable_step(struct locktable *t, struct locktable_record e);
 
 /* Queries change nothing. Who runs: 0 with the running thread, or LOCKTABLE_NOBODY if nobody is live.
  * Refused with LOCKTABLE_NOT_SOUND, and LOCKTABLE_NOBODY. */
-struct locktable_running_answer locktable_running(const struct locktable *t);
+LOCKTABLE_ABI struct locktable_running_answer locktable_running(const struct locktable *t);
 
-/* A thread: 0 with its own priority, the time it was last set, its current precedence and the resource it waits for, or LOCKTABLE_NOTHING.
+/* A thread: 0 with its own priority, the time it was last set, its current precedence and the resource it
+ * waits for, or LOCKTABLE_NOTHING.
  * Refused with LOCKTABLE_NOT_SOUND, LOCKTABLE_NO_SUCH_THREAD or LOCKTABLE_NOT_LIVE, and zeros. */
-struct locktable_thread_answer locktable_thread(const struct locktable *t, uint8_t thread);
+LOCKTABLE_ABI struct locktable_thread_answer locktable_thread(const struct locktable *t, uint8_t thread);
 
 /* A resource: 0 with its holder, or LOCKTABLE_NOBODY if it is free, and the number of waiters.
  * Refused with LOCKTABLE_NOT_SOUND or LOCKTABLE_MALFORMED, and zeros. */
-struct locktable_resource_answer locktable_resource(const struct locktable *t, uint8_t resource);
+LOCKTABLE_ABI struct locktable_resource_answer locktable_resource(const struct locktable *t,
+                                                                  uint8_t resource);
 
-/* The archive was compiled for this layout. (_Static_assert is C's own name: <assert.h> need not be there in a kernel.) */
+/* THE LAYOUT
+ *
+ * The archive was compiled for this one. (_Static_assert is C's own name: <assert.h> need not be there in a
+ * kernel.) */
 #ifdef __cplusplus
 #define LOCKTABLE_SURE static_assert
 #else
 #define LOCKTABLE_SURE _Static_assert
 #endif
 #define LOCKTABLE_SIZE(type, bytes) LOCKTABLE_SURE(sizeof(struct type) == (bytes), "size of struct " #type)
-#define LOCKTABLE_AT(type, field, offset) LOCKTABLE_SURE(offsetof(struct type, field) == (offset), "place of " #field " in struct " #type)
+#define LOCKTABLE_AT(type, field, offset) \
+    LOCKTABLE_SURE(offsetof(struct type, field) == (offset), "place of " #field " in struct " #type)
 LOCKTABLE_SIZE(locktable, 754);
 LOCKTABLE_AT(locktable, clock, 0);
 LOCKTABLE_AT(locktable, live, 2);

@@ -1,0 +1,46 @@
+/* include/locktable.h before any other header, and twice; then each call, as C and as C++. bench/run compiles this file in many ways
+   (bench/header) and runs it: it ends with 0 if every answer is right. */
+#include "locktable.h"
+#include "locktable.h"
+
+#if LOCKTABLE_VERSION != 1
+#error "these answers are those of version 1"
+#endif
+
+/* Through pointers, so that no compiler takes its own convention for the call: their types have LOCKTABLE_ABI, as the header says. */
+static void (LOCKTABLE_ABI *volatile empty)(struct locktable *) = locktable_empty;
+static struct locktable_answer (LOCKTABLE_ABI *volatile step)(struct locktable *, struct locktable_record) = locktable_step;
+
+static int steps_right(struct locktable *t)
+{
+    struct locktable_record create = { LOCKTABLE_CREATE, 3, 200, 0 }, request = { LOCKTABLE_P, 3, 5, 0 };
+    struct locktable_answer a, b, c;
+    empty(t);
+    a = locktable_step(t, create);
+    b = step(t, request);
+    c = step(t, create);
+    return a.number == LOCKTABLE_ACCEPTED && a.running == 3 && a.count == 1
+        && b.number == LOCKTABLE_ACCEPTED && b.running == 3 && b.count == 0
+        && c.number == LOCKTABLE_ALREADY_LIVE && c.running == 3 && c.count == 0
+        && LOCKTABLE_EVENTS_LEFT(t) == LOCKTABLE_EVENTS - 2;
+}
+
+static int queries_right(const struct locktable *t)
+{
+    struct locktable_running_answer a = locktable_running(t);
+    struct locktable_thread_answer b = locktable_thread(t, 3);
+    struct locktable_resource_answer c = locktable_resource(t, 5);
+    return a.number == LOCKTABLE_ACCEPTED && a.running == 3
+        && b.number == LOCKTABLE_ACCEPTED && b.priority == 200 && b.time == 0
+        && b.current_priority == 200 && b.current_time == 0 && b.waits_for == LOCKTABLE_NOTHING
+        && c.number == LOCKTABLE_ACCEPTED && c.holder == 3 && c.waiters == 0
+        && locktable_thread(t, LOCKTABLE_NOBODY).number == LOCKTABLE_NO_SUCH_THREAD
+        && locktable_resource(t, LOCKTABLE_NOTHING).number == LOCKTABLE_MALFORMED;
+}
+
+/* Whatever the convention that this file is compiled for, main is called by that of the machine it runs on. */
+LOCKTABLE_ABI int main(void)
+{
+    struct locktable t;
+    return steps_right(&t) && queries_right(&t) ? 0 : 1;
+}

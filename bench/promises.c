@@ -1,0 +1,364 @@
+/* What include/locktable.h says of the calls, beyond their answers, and can be tried by running them: which memory they write, how a table
+   comes to its end, and that tables are independent. What it says of the machine code is tried by bench/header. */
+#define _DEFAULT_SOURCE /* for mmap and setitimer beside C11 */
+#include <pthread.h>
+#include <signal.h>
+#include <stdbool.h>
+#include <stdio.h>
+#include <stdlib.h>
+#include <string.h>
+#include <sys/mman.h>
+#include <sys/time.h>
+#include <sys/wait.h>
+#include <time.h>
+#include <unistd.h>
+#include "draw.h"
+
+enum { HISTORIES = 300, TURNS = 5000, INTERRUPTS = 300, PATIENCE = 60 };
+
+static void expect(bool holds, const char *sentence)
+{
+    if (holds)
+        return;
+    fprintf(stderr, "FAILED: promises: it does not hold that %s\n", sentence);
+    exit(1);
+}
+
+static uint8_t number_of(struct locktable *t, unsigned kind, unsigned thread, unsigned argument)
+{
+    return locktable_step(t, (struct locktable_record){ (uint8_t)kind, (uint8_t)thread, (uint8_t)argument, 0 }).number;
+}
+
+/* A copy of the table on a page that may only be read, or written too. It ends where the page does, and what follows may not be touched. */
+static struct locktable *on_page(const struct locktable *table, int allowed)
+{
+    size_t page = (size_t)sysconf(_SC_PAGESIZE);
+    uint8_t *at = mmap(0, 2 * page, PROT_READ | PROT_WRITE, MAP_PRIVATE | MAP_ANONYMOUS, -1, 0);
+    expect(at != MAP_FAILED, "two pages can be had");
+    struct locktable *t = (struct locktable *)(void *)(at + page - sizeof *t);
+    *t = *table;
+    expect(mprotect(at, page, allowed) == 0 && mprotect(at + page, page, PROT_NONE) == 0, "pages can be protected");
+    return t;
+}
+
+static void end_with(int signal) { _exit(signal); }
+
+/* Where no fault is looked for. */
+static void on_fault(int signal)
+{
+    (void)signal;
+    expect(false, "a query writes nothing, and no call touches a byte beyond the table");
+}
+
+/* The signal that ends this step, or with no record this `empty`, in a process of its own; 0 if it goes through. */
+static int signal_of(struct locktable *t, const struct locktable_record *e)
+{
+    int status = 0;
+    pid_t child = fork();
+    if (child == 0) {
+        signal(SIGSEGV, end_with);
+        if (e != 0)
+            locktable_step(t, *e);
+        else
+            locktable_empty(t);
+        _exit(0);
+    }
+    expect(child > 0 && waitpid(child, &status, 0) == child && WIFEXITED(status), "a child can be started, and ends");
+    return WEXITSTATUS(status);
+}
+
+/* Thread 0 holds resource 0. Thread 1 runs and holds resource 1. */
+static struct locktable two_holders(void)
+{
+    struct locktable t;
+    locktable_empty(&t);
+    bool made = number_of(&t, LOCKTABLE_CREATE, 0, 10) == 0 && number_of(&t, LOCKTABLE_P, 0, 0) == 0
+        && number_of(&t, LOCKTABLE_CREATE, 1, 20) == 0 && number_of(&t, LOCKTABLE_P, 1, 1) == 0;
+    expect(made, "two threads can be created and take a resource each");
+    return t;
+}
+
+/* The step is refused with this number, changes nothing, and needs to write all the same. */
+static void refused_and_stored(const struct locktable *table, struct locktable_record e, uint8_t number)
+{
+    struct locktable *t = on_page(table, PROT_READ | PROT_WRITE);
+    expect(locktable_step(t, e).number == number, "each refusal has its number");
+    expect(memcmp(t, table, sizeof *t) == 0, "a refused step changes no byte");
+    expect(signal_of(t, &e) == 0, "a refused step goes through on a page that may be written");
+    expect(signal_of(on_page(table, PROT_READ), &e) == SIGSEGV, "a refused step stores the table back");
+}
+
+static void refused_steps_store(void)
+{
+    static const struct { struct locktable_record record; uint8_t number; } refusals[] = {
+        { { 0, 1, 0, 0 }, LOCKTABLE_NO_SUCH_KIND },
+        { { LOCKTABLE_SET, 32, 0, 0 }, LOCKTABLE_NO_SUCH_THREAD },
+        { { LOCKTABLE_P, 1, 16, 0 }, LOCKTABLE_MALFORMED },
+        { { LOCKTABLE_CREATE, 1, 0, 0 }, LOCKTABLE_ALREADY_LIVE },
+        { { LOCKTABLE_V, 2, 0, 0 }, LOCKTABLE_NOT_LIVE },
+        { { LOCKTABLE_V, 0, 0, 0 }, LOCKTABLE_NOT_RUNNING },
+        { { LOCKTABLE_P, 1, 1, 0 }, LOCKTABLE_CIRCLE },
+        { { LOCKTABLE_V, 1, 0, 0 }, LOCKTABLE_NOT_HOLDER },
+        { { LOCKTABLE_EXIT, 1, 0, 0 }, LOCKTABLE_STILL_HOLDS },
+    };
+    struct locktable_record release = { LOCKTABLE_V, 1, 1, 0 };
+    struct locktable table = two_holders(), last = table, unsound = table;
+    for (size_t i = 0; i < sizeof refusals / sizeof *refusals; i++)
+        refused_and_stored(&table, refusals[i].record, refusals[i].number);
+    last.clock = LOCKTABLE_EVENTS;
+    refused_and_stored(&last, release, LOCKTABLE_CLOCK_RUN_OUT);
+    unsound.live[9] = 2;
+    refused_and_stored(&unsound, release, LOCKTABLE_NOT_SOUND);
+    expect(signal_of(on_page(&table, PROT_READ), &release) == SIGSEGV, "an accepted step stores the table");
+    expect(signal_of(on_page(&table, PROT_READ), 0) == SIGSEGV, "locktable_empty stores the table");
+    printf("promises: a step writes the table, refused or not: with each of the numbers 1 to 11\n");
+}
+
+static void queries_only_read(void)
+{
+    struct locktable table = two_holders(), unsound = table;
+    const struct locktable *t = on_page(&table, PROT_READ);
+    bool answered = locktable_running(t).running == 1 && locktable_thread(t, 0).current_priority == 10
+        && locktable_thread(t, 2).number == LOCKTABLE_NOT_LIVE && locktable_thread(t, 32).number == LOCKTABLE_NO_SUCH_THREAD
+        && locktable_resource(t, 1).holder == 1 && locktable_resource(t, 16).number == LOCKTABLE_MALFORMED;
+    unsound.live[9] = 2;
+    t = on_page(&unsound, PROT_READ);
+    answered &= locktable_running(t).number == LOCKTABLE_NOT_SOUND && locktable_thread(t, 0).number == LOCKTABLE_NOT_SOUND
+        && locktable_resource(t, 0).number == LOCKTABLE_NOT_SOUND;
+    expect(answered, "the queries answer on a page that may only be read");
+    printf("promises: the queries answer on a page that may only be read\n");
+}
+
+static void clock_runs_out(void)
+{
+    struct locktable t;
+    int accepted = 2;
+    locktable_empty(&t);
+    expect(LOCKTABLE_EVENTS_LEFT(&t) == LOCKTABLE_EVENTS, "an empty table has all events left");
+    expect(number_of(&t, LOCKTABLE_CREATE, 0, 10) == 0 && number_of(&t, LOCKTABLE_P, 0, 0) == 0, "a thread can take a resource");
+    for (; LOCKTABLE_EVENTS_LEFT(&t) > 0; accepted++) {
+        expect(LOCKTABLE_EVENTS_LEFT(&t) == LOCKTABLE_EVENTS - accepted, "each accepted event leaves one less");
+        expect(number_of(&t, LOCKTABLE_SET, 0, 10) == LOCKTABLE_ACCEPTED, "an event is accepted while any are left");
+    }
+    struct locktable end = t;
+    bool refused = number_of(&t, LOCKTABLE_V, 0, 0) == LOCKTABLE_CLOCK_RUN_OUT && number_of(&t, LOCKTABLE_EXIT, 0, 0) == LOCKTABLE_CLOCK_RUN_OUT
+        && number_of(&t, LOCKTABLE_CREATE, 1, 9) == LOCKTABLE_CLOCK_RUN_OUT && number_of(&t, LOCKTABLE_SET, 0, 9) == LOCKTABLE_CLOCK_RUN_OUT
+        && number_of(&t, LOCKTABLE_P, 0, 1) == LOCKTABLE_CLOCK_RUN_OUT && number_of(&t, LOCKTABLE_V, 0, 16) == LOCKTABLE_MALFORMED;
+    expect(refused && accepted == LOCKTABLE_EVENTS, "after the last event V and Exit are refused");
+    expect(memcmp(&t, &end, sizeof t) == 0 && locktable_resource(&t, 0).holder == 0, "whoever then holds a resource keeps it");
+    t.live[0] = 2;
+    expect(number_of(&t, LOCKTABLE_V, 0, 0) == LOCKTABLE_NOT_SOUND, "a lower number goes first");
+    locktable_empty(&t);
+    expect(LOCKTABLE_EVENTS_LEFT(&t) == LOCKTABLE_EVENTS, "locktable_empty begins anew");
+    printf("promises: after %d accepted events V and Exit are refused, and none are left\n", accepted);
+}
+
+/* What the header says a drain takes. */
+static int drain_takes(const struct locktable *t)
+{
+    int events = 0;
+    for (unsigned i = 0; i < LOCKTABLE_RESOURCES; i++)
+        events += t->length[i];
+    for (unsigned i = 0; i < LOCKTABLE_THREADS; i++)
+        events += t->live[i];
+    return events;
+}
+
+/* A V of anything that the running thread holds, or its Exit. */
+static uint8_t let_go(struct dice *d, struct locktable *t, unsigned running)
+{
+    unsigned start = roll(d, LOCKTABLE_RESOURCES);
+    for (unsigned i = 0; i < LOCKTABLE_RESOURCES; i++) {
+        unsigned r = (start + i) % LOCKTABLE_RESOURCES;
+        if (locktable_resource(t, (uint8_t)r).holder == running)
+            return number_of(t, LOCKTABLE_V, running, r);
+    }
+    return number_of(t, LOCKTABLE_EXIT, running, 0);
+}
+
+/* Drains the table with as many events left as the header says that it takes, and none to spare. */
+static void drain(struct dice *d, struct locktable *t)
+{
+    int takes = drain_takes(t), taken = 0;
+    struct locktable drained = { .clock = LOCKTABLE_EVENTS };
+    expect(takes <= LOCKTABLE_DRAIN, "a drain takes at most LOCKTABLE_DRAIN events");
+    expect(takes <= LOCKTABLE_EVENTS_LEFT(t), "enough events are left for a drain");
+    t->clock = (uint16_t)(LOCKTABLE_EVENTS - takes);
+    for (unsigned running; (running = locktable_running(t).running) != LOCKTABLE_NOBODY; taken++)
+        expect(let_go(d, t, running) == LOCKTABLE_ACCEPTED, "in a drain each V and Exit is accepted");
+    expect(taken == takes && memcmp(t, &drained, sizeof *t) == 0, "a drain takes as many events as is said, and leaves nothing");
+}
+
+/* Events by chance, but no Create, Set or P once LOCKTABLE_DRAIN events are left or fewer. */
+static void careful_history(struct dice *d, const struct mood *m, struct locktable *t)
+{
+    for (unsigned events = roll(d, 400); events > 0; events--) {
+        struct locktable_record e = draw_record(d, m, t, locktable_running(t).running);
+        if (LOCKTABLE_EVENTS_LEFT(t) > LOCKTABLE_DRAIN || e.kind == LOCKTABLE_V || e.kind == LOCKTABLE_EXIT)
+            locktable_step(t, e);
+    }
+}
+
+/* The longest drain: one thread holds every resource, and all the others wait. */
+static struct locktable all_wait(void)
+{
+    struct locktable t;
+    bool made = true;
+    locktable_empty(&t);
+    for (unsigned i = 0; i < LOCKTABLE_THREADS; i++) {
+        made &= number_of(&t, LOCKTABLE_CREATE, i, i) == LOCKTABLE_ACCEPTED;
+        for (unsigned r = 0; r < (i == 0 ? LOCKTABLE_RESOURCES : 1); r++)
+            made &= number_of(&t, LOCKTABLE_P, i, r) == LOCKTABLE_ACCEPTED;
+    }
+    expect(made, "31 threads can wait for one");
+    return t;
+}
+
+static void tables_drain(void)
+{
+    struct dice d = { 1 };
+    struct chain c;
+    int longest = 0;
+    struct locktable t = all_wait();
+    expect(drain_takes(&t) == LOCKTABLE_DRAIN, "a drain can take LOCKTABLE_DRAIN events");
+    drain(&d, &t);
+    for (int i = 0; i < HISTORIES; i++) {
+        struct mood m = draw_mood(&d);
+        if (i % 4 == 0)
+            make_chain(&d, LOCKTABLE_RESOURCES, 100, 1, &t, &c);
+        else
+            locktable_empty(&t);
+        t.clock = (uint16_t)(LOCKTABLE_EVENTS - LOCKTABLE_DRAIN - roll(&d, 300));
+        careful_history(&d, &m, &t);
+        longest = drain_takes(&t) > longest ? drain_takes(&t) : longest;
+        drain(&d, &t);
+    }
+    printf("promises: a drain takes as many events as is said: %d where all wait, up to %d after %d histories\n",
+           LOCKTABLE_DRAIN, longest, HISTORIES);
+}
+
+/* A history that goes on by itself: each event depends on its own table and dice alone. `heard` takes in all answers. */
+struct player {
+    struct locktable table;
+    struct dice dice;
+    struct mood mood;
+    uint64_t heard;
+    unsigned long played;
+};
+
+/* Whether this processor is in the midst of a call. */
+static _Thread_local volatile sig_atomic_t in_a_call;
+
+static struct player new_player(uint64_t seed)
+{
+    struct player p = { .dice = { seed }, .mood = { LOCKTABLE_THREADS, LOCKTABLE_RESOURCES, 8, 5 } };
+    locktable_empty(&p.table);
+    return p;
+}
+
+static void play(struct player *p)
+{
+    if (LOCKTABLE_EVENTS_LEFT(&p->table) == 0)
+        locktable_empty(&p->table);
+    in_a_call = 1;
+    unsigned running = locktable_running(&p->table).running;
+    in_a_call = 0;
+    struct locktable_record e = draw_record(&p->dice, &p->mood, &p->table, running);
+    in_a_call = 1;
+    struct locktable_answer a = locktable_step(&p->table, e);
+    struct locktable_thread_answer thread = locktable_thread(&p->table, e.thread);
+    struct locktable_resource_answer resource = locktable_resource(&p->table, e.argument);
+    in_a_call = 0;
+    uint64_t said[] = { a.number, a.running, a.count, thread.current_priority, thread.current_time, resource.holder };
+    for (size_t i = 0; i < sizeof said / sizeof *said; i++)
+        p->heard = mix(p->heard ^ said[i]);
+    p->played++;
+}
+
+/* Whether a player has come to where the same player comes alone. */
+static bool as_alone(const struct player *p, uint64_t seed)
+{
+    struct player alone = new_player(seed);
+    while (alone.played < p->played)
+        play(&alone);
+    return memcmp(&alone.table, &p->table, sizeof alone.table) == 0 && alone.heard == p->heard;
+}
+
+static void tables_in_turn(void)
+{
+    struct player one = new_player(1), other = new_player(2);
+    for (int i = 0; i < TURNS; i++) {
+        play(&one);
+        play(&other);
+    }
+    expect(as_alone(&one, 1) && as_alone(&other, 2), "two tables in turn do not know of each other");
+    printf("promises: two tables in turn, %d events each: as if alone\n", TURNS);
+}
+
+static void *play_on(void *player)
+{
+    for (int i = 0; i < TURNS; i++)
+        play(player);
+    return 0;
+}
+
+static void tables_at_once(void)
+{
+    struct player one = new_player(5), other = new_player(6);
+    pthread_t thread;
+    expect(pthread_create(&thread, 0, play_on, &other) == 0, "a thread can be started");
+    play_on(&one);
+    expect(pthread_join(thread, 0) == 0, "a thread ends");
+    expect(as_alone(&one, 5) && as_alone(&other, 6), "two tables may be used at once");
+    printf("promises: two tables at once, by two threads, %d events each: as if alone\n", TURNS);
+}
+
+static struct player interrupter;
+static volatile sig_atomic_t interrupted;
+
+/* The system keeps the xmm registers and the red zone of what it interrupts, as the header asks for. The stack that it hands over is aligned,
+   but under some versions of qemu it is not; hence the attribute. */
+__attribute__((force_align_arg_pointer)) static void on_interrupt(int signal)
+{
+    (void)signal;
+    sig_atomic_t inside = in_a_call;
+    play(&interrupter);
+    in_a_call = inside;
+    interrupted += inside;
+}
+
+static void set_timer(long microseconds)
+{
+    struct itimerval every = { { 0, microseconds }, { 0, microseconds } };
+    expect(setitimer(ITIMER_REAL, &every, 0) == 0, "a timer can be set");
+}
+
+static void tables_in_interrupts(void)
+{
+    struct player one = new_player(3);
+    struct sigaction action = { .sa_handler = on_interrupt, .sa_flags = SA_RESTART };
+    time_t latest = time(0) + PATIENCE;
+    interrupter = new_player(4);
+    expect(sigaction(SIGALRM, &action, 0) == 0, "a handler can be set");
+    set_timer(1000);
+    while (interrupted < INTERRUPTS && time(0) < latest)
+        play(&one);
+    set_timer(0);
+    expect(interrupted >= INTERRUPTS, "calls were interrupted often enough");
+    expect(as_alone(&one, 3) && as_alone(&interrupter, 4), "a call on one table may be interrupted by calls on another");
+    printf("promises: another table in an interrupt, %d times in the midst of calls: as if alone\n", (int)interrupted);
+}
+
+int main(void)
+{
+    setvbuf(stdout, 0, _IOLBF, BUFSIZ);
+    signal(SIGSEGV, on_fault);
+    refused_steps_store();
+    queries_only_read();
+    clock_runs_out();
+    tables_drain();
+    tables_in_turn();
+    tables_at_once();
+    tables_in_interrupts();
+    return 0;
+}
