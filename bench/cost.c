@@ -1,4 +1,4 @@
-/* What the calls cost: runs the same events through the library and fast.c, each kind of event by a function of its own, so that
+/* What the calls cost: runs the same events through the library and the C versions, each kind of event by a function of its own, so that
    `count` can tell the kinds apart. It prints nothing but a line on what it ran; the figures are count's. */
 #include <stdio.h>
 #include <stdlib.h>
@@ -17,72 +17,102 @@ static const char usage[] =
     "cost made EVENTS       one event on each of many made tables with up to 32 live threads, most of them waiting\n"
     "N, EVENTS and GAP are at least 1.\n";
 
+enum kind { CREATE, EXIT, SET, P_FREE, P_TAKEN, V_LAST, V_HEIR, REFUSED, KINDS };
 typedef struct locktable_answer step(struct locktable *, struct locktable_record);
 
+/* One version, and its table: aligned, because memcpy's count depends on where its ends lie. */
+struct side {
+    const char *name;
+    step *steps[KINDS];
+    void (*empty)(struct locktable *);
+    struct locktable_running_answer (*running)(const struct locktable *);
+    struct locktable_thread_answer (*thread)(const struct locktable *, uint8_t);
+    struct locktable_resource_answer (*resource)(const struct locktable *, uint8_t);
+    _Alignas(64) struct locktable table;
+};
+
 /* Each is one jump; the report takes it off again. */
-#define KIND(NAME)                                                                                                         \
-    step ours_##NAME, fast_##NAME;                                                                                         \
-    __attribute__((noinline)) struct locktable_answer ours_##NAME(struct locktable *t, struct locktable_record e)          \
+#define STEP(NAME, CALLS, KIND)                                                                                            \
+    step NAME##_##KIND;                                                                                                    \
+    __attribute__((noinline)) struct locktable_answer NAME##_##KIND(struct locktable *t, struct locktable_record e)        \
     {                                                                                                                      \
-        return locktable_step(t, e);                                                                                       \
-    }                                                                                                                      \
-    __attribute__((noinline)) struct locktable_answer fast_##NAME(struct locktable *t, struct locktable_record e)          \
-    {                                                                                                                      \
-        return fast_step(t, e);                                                                                            \
+        return CALLS##_step(t, e);                                                                                         \
     }
-KIND(create)
-KIND(exit)
-KIND(set)
-KIND(p_free)
-KIND(p_taken)
-KIND(v_last)
-KIND(v_heir)
-KIND(refused)
+#define STEPS(NAME, CALLS)                                                                                                 \
+    STEP(NAME, CALLS, create) STEP(NAME, CALLS, exit) STEP(NAME, CALLS, set) STEP(NAME, CALLS, p_free)                     \
+    STEP(NAME, CALLS, p_taken) STEP(NAME, CALLS, v_last) STEP(NAME, CALLS, v_heir) STEP(NAME, CALLS, refused)
+#define SIDE(NAME, CALLS)                                                                                                  \
+    { .name = #NAME,                                                                                                       \
+      .steps = { NAME##_create, NAME##_exit, NAME##_set, NAME##_p_free,                                                    \
+                 NAME##_p_taken, NAME##_v_last, NAME##_v_heir, NAME##_refused },                                           \
+      .empty = CALLS##_empty, .running = CALLS##_running, .thread = CALLS##_thread, .resource = CALLS##_resource }
 
-enum kind { CREATE, EXIT, SET, P_FREE, P_TAKEN, V_LAST, V_HEIR, REFUSED };
-static step *const ours_steps[] = { ours_create, ours_exit, ours_set, ours_p_free, ours_p_taken, ours_v_last, ours_v_heir, ours_refused };
-static step *const fast_steps[] = { fast_create, fast_exit, fast_set, fast_p_free, fast_p_taken, fast_v_last, fast_v_heir, fast_refused };
+STEPS(ours, locktable)
+STEPS(fast, fast)
+STEPS(best, best)
+STEPS(nosse, nosse)
 
-/* Aligned, because memcpy's count depends on where its ends lie. */
-static _Alignas(64) struct locktable ours, fast;
+/* The library is first. */
+static struct side sides[] = { SIDE(ours, locktable), SIDE(fast, fast), SIDE(best, best), SIDE(nosse, nosse) };
+enum { SIDES = sizeof sides / sizeof sides[0] };
+static struct locktable *const ours = &sides[0].table;
 static unsigned runs = LOCKTABLE_NOBODY, calls;
 
 /* What the event will be, by the model on a copy. */
 static enum kind kind_of(struct locktable_record e)
 {
-    struct locktable copy = ours;
+    struct locktable copy = *ours;
     if (model_step(&copy, e).number != LOCKTABLE_ACCEPTED)
         return REFUSED;
     switch (e.kind) {
     case LOCKTABLE_CREATE: return CREATE;
     case LOCKTABLE_EXIT: return EXIT;
     case LOCKTABLE_SET: return SET;
-    case LOCKTABLE_P: return ours.length[e.argument] == 0 ? P_FREE : P_TAKEN;
-    default: return ours.length[e.argument] == 1 ? V_LAST : V_HEIR;
+    case LOCKTABLE_P: return ours->length[e.argument] == 0 ? P_FREE : P_TAKEN;
+    default: return ours->length[e.argument] == 1 ? V_LAST : V_HEIR;
     }
 }
 
-/* One event on both tables, and the queries after it. */
-static void both(struct locktable_record e)
+/* What a side answers to an event, and to the queries after it. */
+struct outcome {
+    uint8_t number, running, count, asked_running, waits_for, holder;
+};
+
+static struct outcome run(struct side *s, enum kind kind, struct locktable_record e)
+{
+    struct locktable_answer a = s->steps[kind](&s->table, e);
+    struct locktable_running_answer x = s->running(&s->table);
+    struct locktable_thread_answer y = s->thread(&s->table, e.thread);
+    struct locktable_resource_answer z = s->resource(&s->table, e.argument);
+    return (struct outcome){ a.number, a.running, a.count, x.running, y.waits_for, z.holder };
+}
+
+/* One event on all tables, and the queries after it. */
+static void act(struct locktable_record e)
 {
     enum kind kind = kind_of(e);
-    struct locktable_answer a = ours_steps[kind](&ours, e), b = fast_steps[kind](&fast, e);
-    struct locktable_running_answer x = locktable_running(&ours), y = fast_running(&fast);
-    struct locktable_thread_answer p = locktable_thread(&ours, e.thread), q = fast_thread(&fast, e.thread);
-    struct locktable_resource_answer u = locktable_resource(&ours, e.argument), w = fast_resource(&fast, e.argument);
-    bool equal = a.number == b.number && a.running == b.running && a.count == b.count && memcmp(&ours, &fast, sizeof ours) == 0;
-    equal = equal && x.running == y.running && p.waits_for == q.waits_for && u.holder == w.holder;
-    if (!equal) {
-        fprintf(stderr, "cost: the two differ at call %u\n", calls + 1);
-        exit(1);
+    struct outcome want = run(&sides[0], kind, e);
+    for (int i = 1; i < SIDES; i++) {
+        struct outcome got = run(&sides[i], kind, e);
+        if (memcmp(&want, &got, sizeof want) != 0 || memcmp(ours, &sides[i].table, sizeof *ours) != 0) {
+            fprintf(stderr, "cost: %s differs from ours at call %u\n", sides[i].name, calls + 1);
+            exit(1);
+        }
     }
-    runs = a.running;
+    runs = want.running;
     calls++;
+}
+
+/* All tables become as ours is. */
+static void share(void)
+{
+    for (int i = 1; i < SIDES; i++)
+        sides[i].table = *ours;
 }
 
 static void event(unsigned kind, unsigned thread, unsigned argument)
 {
-    both((struct locktable_record){ (uint8_t)kind, (uint8_t)thread, (uint8_t)argument, 0 });
+    act((struct locktable_record){ (uint8_t)kind, (uint8_t)thread, (uint8_t)argument, 0 });
 }
 
 static int vector(const char *path)
@@ -94,7 +124,7 @@ static int vector(const char *path)
         return 2;
     }
     while (fread(b, 1, 4, f) == 4)
-        both((struct locktable_record){ b[0], b[1], b[2], b[3] });
+        act((struct locktable_record){ b[0], b[1], b[2], b[3] });
     fclose(f);
     return 0;
 }
@@ -104,7 +134,7 @@ static struct locktable_record draw_accepted(struct dice *d, const struct mood *
 {
     struct locktable_record e;
     do
-        e = draw_busy_record(d, m, &ours, runs);
+        e = draw_busy_record(d, m, ours, runs);
     while (kind_of(e) == REFUSED);
     return e;
 }
@@ -115,13 +145,12 @@ static int live(unsigned threads, unsigned events)
     struct mood m = { threads, threads < LOCKTABLE_RESOURCES ? threads : LOCKTABLE_RESOURCES, 256, 0 };
     struct dice d = { mix(threads) };
     for (unsigned i = 0; i < threads; i++) {
-        struct locktable_record e = draw_busy_record(&d, &m, &ours, runs);
-        struct locktable_answer a = model_step(&ours, e);
-        model_step(&fast, e);
-        runs = a.running;
+        struct locktable_record e = draw_busy_record(&d, &m, ours, runs);
+        runs = model_step(ours, e).running;
     }
+    share();
     while (calls < events)
-        both(draw_accepted(&d, &m));
+        act(draw_accepted(&d, &m));
     return 0;
 }
 
@@ -131,7 +160,7 @@ static void drain(void)
     while (runs != LOCKTABLE_NOBODY) {
         unsigned thread = runs;
         for (unsigned r = 0; r < LOCKTABLE_RESOURCES && runs == thread; r++)
-            if (ours.length[r] > 0 && ours.queue[LOCKTABLE_THREADS * r] == thread)
+            if (ours->length[r] > 0 && ours->queue[LOCKTABLE_THREADS * r] == thread)
                 event(LOCKTABLE_V, thread, r);
         if (runs == thread)
             event(LOCKTABLE_EXIT, thread, 0);
@@ -141,8 +170,8 @@ static void drain(void)
 /* The clock goes on to a multiple of the gap, as it would by events that leave nothing behind: a Create, perhaps a Set, and an Exit. */
 static void turn_clock(unsigned gap)
 {
-    ours.clock = (uint16_t)((ours.clock + gap - 1) / gap * gap);
-    fast.clock = ours.clock;
+    ours->clock = (uint16_t)((ours->clock + gap - 1) / gap * gap);
+    share();
 }
 
 /* Sixteen threads hold a resource each and all but the first wait for the one before; the others wait for the last. Each is the highest so far,
@@ -181,10 +210,10 @@ static int made(unsigned events)
     struct mood m = { LOCKTABLE_THREADS, LOCKTABLE_RESOURCES, 256, 0 };
     struct dice d = { 1 };
     while (calls < events) {
-        make_table(&d, &m, &ours);
-        fast = ours;
-        if (model_sound(&ours))
-            both(draw_record(&d, &m, &ours, model_running(&ours).running));
+        make_table(&d, &m, ours);
+        share();
+        if (model_sound(ours))
+            act(draw_record(&d, &m, ours, model_running(ours).running));
     }
     return 0;
 }
@@ -194,8 +223,8 @@ static int chains(unsigned tables, unsigned gap)
     struct dice d = { 1 };
     struct chain c;
     while (tables-- > 0) {
-        make_chain(&d, LOCKTABLE_RESOURCES, 100, gap, &ours, &c);
-        fast = ours;
+        make_chain(&d, LOCKTABLE_RESOURCES, 100, gap, ours, &c);
+        share();
         event(LOCKTABLE_P, c.thread[LAST_THREAD], c.resource[LAST_RESOURCE]);
         event(LOCKTABLE_V, c.thread[0], c.resource[0]);
     }
@@ -234,8 +263,8 @@ static int history(int words, char **word)
 
 int main(int argc, char **argv)
 {
-    locktable_empty(&ours);
-    fast_empty(&fast);
+    for (int i = 0; i < SIDES; i++)
+        sides[i].empty(&sides[i].table);
     int status = history(argc - 1, argv + 1);
     if (status == 0)
         printf("%u calls\n", calls);

@@ -1,7 +1,7 @@
-/* The differential test: the library, fast.c and the model get the same tables and records by chance. After every call the answers
-   and all bytes of the tables must be equal.
+/* The differential test: the library, fast.c, best.c and the model get the same tables and records by chance. After every call the
+   answers and all bytes of the tables must be equal.
      differ [--seed N] [--tests N] [--only N]       tests 1 to N of a seed (6,000 of a fresh one), or only test N
-     differ --drill model|fast|library FILE..       the listing of each file of records, by one side */
+     differ --drill model|fast|best|library FILE..  the listing of each file of records, by one side */
 #include <errno.h>
 #include <stdio.h>
 #include <stdlib.h>
@@ -28,6 +28,7 @@ struct side {
 static const struct side sides[] = {
     { "model", model_step, model_empty, model_running, model_thread, model_resource },
     { "fast", fast_step, fast_empty, fast_running, fast_thread, fast_resource },
+    { "best", best_step, best_empty, best_running, best_thread, best_resource },
     { "library", locktable_step, locktable_empty, locktable_running, locktable_thread, locktable_resource },
 };
 enum { SIDES = sizeof sides / sizeof sides[0] };
@@ -336,7 +337,7 @@ static unsigned long long number(char **words)
 
 static int usage(FILE *to, int status)
 {
-    fprintf(to, "differ [--seed N] [--tests N] [--only N]\ndiffer --drill model|fast|library FILE..\n");
+    fprintf(to, "differ [--seed N] [--tests N] [--only N]\ndiffer --drill model|fast|best|library FILE..\n");
     return status;
 }
 

@@ -23,8 +23,10 @@ KINDS = {
     'v_last': 'V, nobody waits', 'v_heir': 'V, somebody waits', 'refused': 'refused',
 }
 CALLS = ['step', 'running', 'thread', 'resource', 'empty']
-# The test whether a table is sound: a function of its own on either side, and every call but `empty` makes it once.
-OUR_TEST, FAST_TEST = 'soundness::check::check', 'fast_look'
+# How the names of each version's calls begin, and the head of its column.
+VERSIONS = {'locktable': 'ours', 'fast': 'fast.c', 'best': 'best.c', 'nosse': 'fast.c without SSE'}
+# The test whether a table is sound, a function of its own in each version, in the same order; every call but `empty` makes it once.
+TESTS = ['soundness::check::check', 'fast_look', 'best_look', 'nosse_look']
 # A plain C version, measured the same way: what is known of it.
 PLAIN = {('small', 'mean'): 4000, ('contended', 'mean'): 4400, ('chain_of_16', 'worst'): 8500}
 MOST_TO_C, MOST_AT_32, MOST_STACK = 1.4, 12000, 5120
@@ -38,8 +40,8 @@ def read_counts(path):
         if w[0] == 'function' and int(w[3]) > 0:
             jump = 1 if w[1].partition('_')[2] in KINDS else 0
             found[w[1]] = {'times': int(w[3]), 'mean': float(w[7]) - jump, 'worst': int(w[11]) - jump, 'stack': int(w[15])}
-    if OUR_TEST not in found or found[OUR_TEST]['times'] != found[FAST_TEST]['times']:
-        sys.exit(f'figures.py: {path}: {OUR_TEST} and {FAST_TEST} were not called equally often; is one inlined, or renamed?')
+    if any(test not in found or found[test]['times'] != found[TESTS[0]]['times'] for test in TESTS):
+        sys.exit(f'figures.py: {path}: {", ".join(TESTS)} were not called equally often; is one inlined, or renamed?')
     return found
 
 
@@ -58,38 +60,52 @@ def table(head, rows):
     return '\n'.join(lines) + '\n'
 
 
-def pair(ours, fast):
-    """mean and worst of ours and of fast.c, and how many times as much ours is."""
-    return [number(ours['mean']), number(fast['mean']), f"{ours['mean'] / fast['mean']:.2f}",
-            number(ours['worst']), number(fast['worst']), f"{ours['worst'] / fast['worst']:.2f}"]
+def times(ours, other):
+    return f'{ours / other:.2f}'
 
 
-PAIR_HEAD = ['mean', 'fast.c', 'times', 'worst', 'fast.c', 'times']
-
-
-def history_table(counts, ours, fast):
-    """Two functions beside each other, a row for each history."""
+def history_table(counts, functions, what):
+    """The mean or the worst of one function of each version, a row for each history, and how many times as much ours is."""
     rows = []
     for name, words in WORKLOADS.items():
-        c = counts[name]
-        rows.append([words, number(c[ours]['times'])] + pair(c[ours], c[fast]))
-    return table(['', 'calls'] + PAIR_HEAD, rows)
+        ours, *others = [counts[name][function] for function in functions]
+        figures = [number(c[what]) for c in [ours] + others]
+        rows.append([words, number(ours['times'])] + figures + [times(ours[what], c[what]) for c in others[:2]])
+    return table(['', 'calls'] + list(VERSIONS.values()) + ['ours / fast.c', 'ours / best.c'], rows)
+
+
+def history_tables(counts, functions):
+    return f"Mean:\n\n{history_table(counts, functions, 'mean')}\nWorst:\n\n{history_table(counts, functions, 'worst')}"
+
+
+THREE_HEAD = ['mean', 'fast.c', 'best.c', '/ fast.c', '/ best.c', 'worst', 'fast.c', 'best.c', '/ fast.c', '/ best.c']
+
+
+def three(counts, ours, fast, best):
+    """Mean and worst of three functions, and how many times as much the first is as the others."""
+    cells = []
+    for what in ('mean', 'worst'):
+        first, *others = [counts[function][what] for function in (ours, fast, best)]
+        cells += [number(x) for x in [first] + others] + [times(first, x) for x in others]
+    return cells
 
 
 def query_table(counts):
     rows = []
     for name in ('live_2', 'live_8', 'live_32'):
         for call in ('running', 'thread', 'resource'):
-            rows.append([f'`locktable_{call}`, {WORKLOADS[name]}'] + pair(counts[name]['locktable_' + call], counts[name]['fast_' + call]))
-    return table([''] + PAIR_HEAD, rows)
+            functions = [f'{version}_{call}' for version in ('locktable', 'fast', 'best')]
+            rows.append([f'`{functions[0]}`, {WORKLOADS[name]}'] + three(counts[name], *functions))
+    return table([''] + THREE_HEAD, rows)
 
 
 def kind_table(counts):
     rows = []
     for kind, words in KINDS.items():
-        if 'ours_' + kind in counts:
-            rows.append([words, number(counts['ours_' + kind]['times'])] + pair(counts['ours_' + kind], counts['fast_' + kind]))
-    return table(['', 'calls'] + PAIR_HEAD, rows)
+        functions = [f'{version}_{kind}' for version in ('ours', 'fast', 'best')]
+        if functions[0] in counts:
+            rows.append([words, number(counts[functions[0]]['times'])] + three(counts, *functions))
+    return table(['', 'calls'] + THREE_HEAD, rows)
 
 
 def most_touched(counts):
@@ -104,9 +120,9 @@ def most_touched(counts):
 def stack_table(touched, depths):
     rows = []
     for call in CALLS:
-        ours, fast = 'locktable_' + call, 'fast_' + call
-        rows.append([f'`{ours}`', number(touched[ours]), number(touched[fast]), number(depths[ours]), number(depths[fast])])
-    return table(['', 'touched', 'fast.c', 'frames', 'fast.c'], rows)
+        functions = [f'{version}_{call}' for version in ('locktable', 'fast', 'best')]
+        rows.append([f'`{functions[0]}`'] + [number(stack[function]) for stack in (touched, depths) for function in functions])
+    return table(['', 'touched', 'fast.c', 'best.c', 'frames', 'fast.c', 'best.c'], rows)
 
 
 def goal_row(words, figure, limit, why):
@@ -133,7 +149,7 @@ def verdict(counts, rows):
         return 'All are met.'
     words = [f"""**{unmet} of {len(rows)} are not met.** The step is a function from a table to a table, as it is proved, and the thin call stores its result, so the
 table is copied in and out, which C that changes bytes in place does not do. `docs/DECISIONS.md` says what was tried."""]
-    rising, falling = (counts[name][OUR_TEST]['worst'] for name in ('rising_32', 'falling_32'))
+    rising, falling = (counts[name][TESTS[0]]['worst'] for name in ('rising_32', 'falling_32'))
     if falling > 1.2 * rising:
         words.append(f"""The order of ids matters: on the same chain the soundness test takes {number(rising)} at worst with rising ids and
 {number(falling)} with falling ones.""")
@@ -151,18 +167,24 @@ def beside_plain(counts):
 
 PAGE = """# Figures
 
-Written by `bench/run --figures`; do not edit. Instructions that an x86-64 processor executes, counted exactly, callees included, the
-C library's memcpy in its SSE2 form. They depend on the compiler and not on the machine or its load; a copy's count varies by a few with where it
-lies. Kit: `{version}`.
+Written by `bench/run --figures`; do not edit. Instructions that an x86-64 processor executes, counted exactly, callees
+included, the C library's memcpy in its SSE2 form. They depend on the compiler and not on the machine or its load; a
+copy's count varies by a few with where it lies. Kit: `{version}`.
 
-"Ours" is the linked library, called as in `include/locktable.h`. `fast.c` is the same calls in C, written for a kernel and compiled by the same
-clang at the same settings; both ran in the same process on the same events, and their tables were equal after each. A plain C version that is not
-in this tree was measured at
+"Ours" is the linked library, called as in `include/locktable.h`. The others are the same calls in C, which change the
+table in place: `fast.c` as one writes it for a kernel, and `best.c` with SSE2 by hand, the height to aim at. Both are
+compiled as the library is (`bench/cc64`), by the kit's {compiler} with
+`-O3 -march=x86-64 -fPIC -ffunction-sections -fdata-sections`. "fast.c without SSE" is `fast.c` as kernels are
+compiled, by the same clang with `-mgeneral-regs-only -mno-red-zone` besides. All ran in the same process on the same
+events, and their tables were equal after each. Of the C library the C versions call memset alone, to empty a table.
+
+A plain C version that is not in this tree was measured at
 {plain},
 and 560 bytes of stack.
 
-What is counted: in a busy history accepted events only. The vectors and the made tables have refused ones too, which the tables by kind of event
-show apart. Set times 64 apart share a mark in the library's test whether they differ, so that it compares each with all others.
+What is counted: in a busy history accepted events only. The vectors and the made tables have refused ones too, which
+the tables by kind of event show apart. Set times 64 apart share a mark in the test whether they differ, in the library
+and in `best.c`, so that it compares each with all others.
 
 ## Against the goals
 
@@ -174,23 +196,25 @@ show apart. Set times 64 apart share a mark in the library's test whether they d
 {step}
 ## The test whether the table is sound
 
-The test alone: the function `soundness::check::check` of the library, and `fast_look` in `fast.c`, which is kept out of line for this. Both also work out
-what the rest of a call needs. Every call makes it once: the step on the table before the event, and the three queries, asked after each event, on
-the table after it.
+The test alone: the function `soundness::check::check` of the library, and `fast_look` in `fast.c` and `best_look` in
+`best.c`, which are kept out of line for this. All also work out what the rest of a call needs. Every call makes it
+once: the step on the table before the event, and the three queries, asked after each event, on the table after it.
 
 {sound}
 ## The queries
 
-The test, and what is asked for. Ours copies the table once before that, since the query that is proved takes it by value.
+The test, and what is asked for. Ours copies the table once before that, since the query that is proved takes it by
+value. "/ fast.c" and "/ best.c" say how many times as much ours is.
 
 {queries}
 ## The step by kind of event
 
 {kinds}## Stack
 
-Bytes below the call's return address, callees included. Touched: down to the lowest byte that any of these runs touched, the red zone of the
-deepest function with it. Frames: pushes and frames on the deepest way, by the machine code, without a red zone. The 560 bytes of the plain C version
-are to be compared with the frames of `fast.c`'s step, {fast_frames}.
+Bytes below the call's return address, callees included. Touched: down to the lowest byte that any of these runs
+touched, the red zone of the deepest function with it. Frames: pushes and frames on the deepest way, by the machine
+code, without a red zone. The 560 bytes of the plain C version are to be compared with the frames of `fast.c`'s step,
+{fast_frames}.
 
 {stack}
 ## Commands
@@ -199,12 +223,13 @@ are to be compared with the frames of `fast.c`'s step, {fast_frames}.
 
 or by hand, after it has built the programs once:
 
-    bench/count -s -f locktable_step -f fast_step target/bench/cost vector crates/drill_vectors/data/small.in
-    bench/count -s -f locktable_step -f fast_step target/bench/cost live 32 3000
-    bench/count -f soundness::check::check -f fast_look target/bench/cost chain falling 64
+    bench/count -s -f locktable_step -f best_step target/bench/cost vector crates/drill_vectors/data/small.in
+    bench/count -s -f locktable_step -f nosse_step target/bench/cost live 32 3000
+    bench/count -f soundness::check::check -f fast_look -f best_look target/bench/cost chain falling 64
     bench/stack target/bench/cost
 
-`bench/count` with `-f ours_p_taken -f fast_p_taken` and so on gives one kind; `usage` in `bench/cost.c` lists the histories.
+The names of `fast.c` without SSE begin with `nosse_`. `bench/count` with `-f ours_p_taken -f fast_p_taken` and so on
+gives one kind; `usage` in `bench/cost.c` lists the histories.
 """
 
 
@@ -212,18 +237,24 @@ def kind_tables(counts):
     return '\n'.join(f'{words[0].upper()}{words[1:]}:\n\n{kind_table(counts[name])}' for name, words in WORKLOADS.items())
 
 
-def page(counts, depths, version):
+def page(counts, depths, version, compiler):
     touched = most_touched(counts)
     rows = goals(counts, touched)
-    return PAGE.format(version=version, plain=beside_plain(counts), verdict=verdict(counts, rows),
-                       goals=table(['', 'ours', 'at most', 'which is', 'met'], rows), step=history_table(counts, 'locktable_step', 'fast_step'),
-                       sound=history_table(counts, OUR_TEST, FAST_TEST), queries=query_table(counts), kinds=kind_tables(counts) + '\n',
+    return PAGE.format(version=version, compiler=compiler, plain=beside_plain(counts), verdict=verdict(counts, rows),
+                       goals=table(['', 'ours', 'at most', 'which is', 'met'], rows),
+                       step=history_tables(counts, [f'{name}_step' for name in VERSIONS]), sound=history_tables(counts, TESTS),
+                       queries=query_table(counts), kinds=kind_tables(counts) + '\n',
                        stack=stack_table(touched, depths), fast_frames=number(depths['fast_step']))
+
+
+def read_line(path):
+    return open(path).read().strip()
 
 
 def main(folder):
     counts = {name: read_counts(f'{folder}/{name}.count') for name in WORKLOADS}
-    print(page(counts, read_depths(f'{folder}/frames'), open(f'{folder}/version').read().strip()), end='')
+    depths = read_depths(f'{folder}/frames')
+    print(page(counts, depths, read_line(f'{folder}/version'), read_line(f'{folder}/compiler')), end='')
 
 
 main(sys.argv[1])
