@@ -261,8 +261,11 @@ static int history(int words, char **word)
     return 2;
 }
 
+/* memcpy's count depends on where its ends lie. So the stack of all calls begins at a page, wherever the program's words put it. */
 int main(int argc, char **argv)
 {
+    _Alignas(4096) volatile char page = 0;
+    (void)page;
     for (int i = 0; i < SIDES; i++)
         sides[i].empty(&sides[i].table);
     int status = history(argc - 1, argv + 1);
