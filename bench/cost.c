@@ -5,6 +5,7 @@
 #include <string.h>
 #include "draw.h"
 #include "model.h"
+#include "trial.h"
 
 static const char usage[] =
     "cost vector FILE       the records of a file, from the empty table\n"
@@ -14,6 +15,7 @@ static const char usage[] =
     "cost crowd             one thread holds all, 31 others wait at one resource, then the releases\n"
     "cost chains N GAP      N tables of 32 live threads with sixteen holders in one chain, in any order of ids, the others waiting\n"
     "                       anywhere, set times GAP apart; a request at the far end, then the release at the near one\n"
+    "cost trial FILE        the event on the table that the file has (bench/trial.h)\n"
     "cost made EVENTS       one event on each of many made tables with up to 32 live threads, most of them waiting\n"
     "N, EVENTS and GAP are at least 1.\n";
 
@@ -205,6 +207,17 @@ static int crowd(void)
     return 0;
 }
 
+static int trial(const char *path)
+{
+    struct trial s;
+    if (!read_trial(path, &s))
+        return 2;
+    *ours = s.table;
+    share();
+    act(s.record);
+    return 0;
+}
+
 static int made(unsigned events)
 {
     struct mood m = { LOCKTABLE_THREADS, LOCKTABLE_RESOURCES, 256, 0 };
@@ -247,6 +260,8 @@ static int history(int words, char **word)
     bool falling = words > 1 && strcmp(word[1], "falling") == 0, rising = words > 1 && strcmp(word[1], "rising") == 0;
     if (words == 2 && strcmp(name, "vector") == 0)
         return vector(word[1]);
+    if (words == 2 && strcmp(name, "trial") == 0)
+        return trial(word[1]);
     if (words == 3 && strcmp(name, "live") == 0 && n > 0 && n <= LOCKTABLE_THREADS && number(word[2], 60000) > 0)
         return live(n, number(word[2], 60000));
     if (words == 3 && strcmp(name, "chain") == 0 && (falling || rising) && gap > 0)

@@ -1,7 +1,10 @@
 """figures.py DIR: the figures that `bench/run --figures` counted in DIR, as a page.
 
 A goal that is not met is said so on the page, in the sentence with the figure."""
+import os
 import sys
+
+BENCH = os.path.dirname(os.path.abspath(__file__))
 
 WORKLOADS = {
     'small': 'the vector `small`',
@@ -17,7 +20,11 @@ WORKLOADS = {
     'chains_32': '1,000 made chains of sixteen holders, 32 live threads',
     'chains_apart_32': '1,000 such chains, set times 64 apart',
     'made_32': 'one event on each of 2,000 made tables, 29 to 32 live threads',
+    'worst_ours_32': 'the worst table found for ours',
+    'worst_fast_32': 'the worst table found for `fast.c`',
 }
+# What was found by the search, one event each.
+FOUND = ['worst_ours_32', 'worst_fast_32']
 KINDS = {
     'create': 'Create', 'exit': 'Exit', 'set': 'Set', 'p_free': 'P, free', 'p_taken': 'P, taken',
     'v_last': 'V, nobody waits', 'v_heir': 'V, somebody waits', 'refused': 'refused',
@@ -194,6 +201,18 @@ and in `best.c`, so that it compares each with all others.
 ## The step
 
 {step}
+## The worst tables found
+
+`bench/run --search` looks for the sound table and the event whose step executes the most instructions: by chance first,
+then by small changes of the best ones. That gives a lower bound on the worst case and no proof. What it found is in
+`bench/worst`, in a form that can be read (`bench/trial.h`). Searches from several seeds came to the same figure or
+within one in a hundred of it.
+
+For ours: {found_ours}
+
+For `fast.c`: {found_fast}
+
+{found}
 ## The test whether the table is sound
 
 The test alone: the function `soundness::check::check` of the library, and `fast_look` in `fast.c` and `best_look` in
@@ -220,12 +239,14 @@ code, without a red zone. The 560 bytes of the plain C version are to be compare
 ## Commands
 
     bench/run --figures
+    bench/run --search
 
 or by hand, after it has built the programs once:
 
     bench/count -s -f locktable_step -f best_step target/bench/cost vector crates/drill_vectors/data/small.in
     bench/count -s -f locktable_step -f nosse_step target/bench/cost live 32 3000
     bench/count -f soundness::check::check -f fast_look -f best_look target/bench/cost chain falling 64
+    bench/count -f locktable_step -f fast_step target/bench/cost trial bench/worst/ours
     bench/stack target/bench/cost
 
 The names of `fast.c` without SSE begin with `nosse_`. `bench/count` with `-f ours_p_taken -f fast_p_taken` and so on
@@ -234,7 +255,38 @@ gives one kind; `usage` in `bench/cost.c` lists the histories.
 
 
 def kind_tables(counts):
-    return '\n'.join(f'{words[0].upper()}{words[1:]}:\n\n{kind_table(counts[name])}' for name, words in WORKLOADS.items())
+    histories = {name: words for name, words in WORKLOADS.items() if name not in FOUND}
+    return '\n'.join(f'{words[0].upper()}{words[1:]}:\n\n{kind_table(counts[name])}' for name, words in histories.items())
+
+
+def found_parts(counts):
+    """How the step on the worst table goes: the soundness test, and what is left, for each of the two."""
+    rows = []
+    for name in FOUND:
+        for version, test in zip(list(VERSIONS)[:3], TESTS):
+            step, look = counts[name][f'{version}_step']['worst'], counts[name][test]['worst']
+            rows.append([f'{WORKLOADS[name]}, {VERSIONS[version]}', number(step), number(look), number(step - look)])
+    return table(['', 'step', 'soundness test', 'the rest'], rows)
+
+
+def read_trial(path):
+    """The lines of a trial as text: a first word and numbers."""
+    words = [line.split() for line in open(path) if not line.startswith('#')]
+    return [(w[0], [int(n) for n in w[1:]]) for w in words if w]
+
+
+def described(path):
+    """A trial in a sentence: its event, who is live, who holds and who waits."""
+    lines = read_trial(path)
+    kind, thread, argument, _ = next(n for word, n in lines if word == 'record')
+    threads = [n for word, n in lines if word == 'thread']
+    queues = {n[0]: n[1:] for word, n in lines if word == 'resource'}
+    event = {4: f'P of resource {argument}', 5: f'V of resource {argument}'}.get(kind, f'kind {kind}')
+    waiters = {r: len(q) - 1 for r, q in queues.items()}
+    marks = len({n[2] % 64 for n in threads})
+    return (f'{event} by thread {thread}, where {waiters.get(argument, 0)} wait. {len(threads)} threads are live. {len(queues)} resources are held, by\n'
+            f'{len({q[0] for q in queues.values()})} threads, and {sum(waiters.values())} threads wait, at {sum(1 for n in waiters.values() if n > 0)} of them.\n'
+            f'Modulo 64 the set times are {marks} number{"s" if marks > 1 else ""}.')
 
 
 def page(counts, depths, version, compiler):
@@ -242,7 +294,8 @@ def page(counts, depths, version, compiler):
     rows = goals(counts, touched)
     return PAGE.format(version=version, compiler=compiler, plain=beside_plain(counts), verdict=verdict(counts, rows),
                        goals=table(['', 'ours', 'at most', 'which is', 'met'], rows),
-                       step=history_tables(counts, [f'{name}_step' for name in VERSIONS]), sound=history_tables(counts, TESTS),
+                       step=history_tables(counts, [f'{name}_step' for name in VERSIONS]),
+                       found=found_parts(counts), found_ours=described(f'{BENCH}/worst/ours'), found_fast=described(f'{BENCH}/worst/fast'), sound=history_tables(counts, TESTS),
                        queries=query_table(counts), kinds=kind_tables(counts) + '\n',
                        stack=stack_table(touched, depths), fast_frames=number(depths['fast_step']))
 
