@@ -207,6 +207,7 @@ static int crowd(void)
     return 0;
 }
 
+/* The step alone, so that its test whether the table is sound is the only one. */
 static int trial(const char *path)
 {
     struct trial s;
@@ -214,7 +215,15 @@ static int trial(const char *path)
         return 2;
     *ours = s.table;
     share();
-    act(s.record);
+    enum kind kind = kind_of(s.record);
+    for (int i = 0; i < SIDES; i++) {
+        sides[i].steps[kind](&sides[i].table, s.record);
+        if (memcmp(ours, &sides[i].table, sizeof *ours) != 0) {
+            fprintf(stderr, "cost: %s differs from ours\n", sides[i].name);
+            return 1;
+        }
+    }
+    calls++;
     return 0;
 }
 

@@ -269,6 +269,10 @@ def found_parts(counts):
     return table(['', 'step', 'soundness test', 'the rest'], rows)
 
 
+def counted(n, what):
+    return f'{n} {what}' if n == 1 else f'{n} {what}s'
+
+
 def read_trial(path):
     """The lines of a trial as text: a first word and numbers."""
     words = [line.split() for line in open(path) if not line.startswith('#')]
@@ -283,10 +287,11 @@ def described(path):
     queues = {n[0]: n[1:] for word, n in lines if word == 'resource'}
     event = {4: f'P of resource {argument}', 5: f'V of resource {argument}'}.get(kind, f'kind {kind}')
     waiters = {r: len(q) - 1 for r, q in queues.items()}
-    marks = len({n[2] % 64 for n in threads})
-    return (f'{event} by thread {thread}, where {waiters.get(argument, 0)} wait. {len(threads)} threads are live. {len(queues)} resources are held, by\n'
-            f'{len({q[0] for q in queues.values()})} threads, and {sum(waiters.values())} threads wait, at {sum(1 for n in waiters.values() if n > 0)} of them.\n'
-            f'Modulo 64 the set times are {marks} number{"s" if marks > 1 else ""}.')
+    contended = sum(1 for n in waiters.values() if n > 0)
+    return (f'{event} by thread {thread}, where {waiters.get(argument, 0)} wait.\n'
+            f'{counted(len(threads), "thread")} live, {sum(waiters.values())} waiting at {counted(contended, "resource")}, which '
+            f'{counted(len({q[0] for q in queues.values()}), "thread")} hold.\n'
+            f'The set times modulo 64: {counted(len({n[2] % 64 for n in threads}), "number")}.')
 
 
 def page(counts, depths, version, compiler):

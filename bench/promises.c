@@ -237,6 +237,64 @@ static void tables_drain(void)
            LOCKTABLE_DRAIN, longest, HISTORIES);
 }
 
+/* The live thread that was set first of those set at `from` or later, or LOCKTABLE_NOBODY. */
+static unsigned set_next(const struct locktable *t, unsigned from)
+{
+    unsigned first = LOCKTABLE_NOBODY;
+    for (unsigned i = 0; i < LOCKTABLE_THREADS; i++)
+        if (t->live[i] && t->time[i] >= from && (first == LOCKTABLE_NOBODY || t->time[i] < t->time[first]))
+            first = i;
+    return first;
+}
+
+/* A table in which nobody holds anything is begun anew as the header says. */
+static void begin_anew(struct locktable *t)
+{
+    struct locktable old = *t;
+    unsigned thread, from = 0;
+    locktable_empty(t);
+    for (; (thread = set_next(&old, from)) != LOCKTABLE_NOBODY; from = old.time[thread] + 1u)
+        expect(number_of(t, LOCKTABLE_CREATE, thread, old.priority[thread]) == LOCKTABLE_ACCEPTED, "each thread is created anew");
+}
+
+static void tables_begin_anew(void)
+{
+    struct dice d = { 2 };
+    struct locktable t;
+    struct locktable_record e;
+    for (int i = 0; i < HISTORIES; i++) {
+        struct mood m = { 1 + roll(&d, LOCKTABLE_THREADS), 1, 1 + roll(&d, 4), 0 };
+        locktable_empty(&t);
+        for (unsigned events = roll(&d, 200); events > 0; events--)
+            if ((e = draw_busy_record(&d, &m, &t, locktable_running(&t).running)).kind < LOCKTABLE_P)
+                locktable_step(&t, e);
+        unsigned running = locktable_running(&t).running;
+        begin_anew(&t);
+        expect(locktable_running(&t).running == running, "the same thread runs where a table is begun anew");
+    }
+    printf("promises: a table where nobody holds anything is begun anew, and the same thread runs, %d times\n", HISTORIES);
+}
+
+/* An accepted P names its thread as running exactly if that holds the resource then. */
+static void running_holds(void)
+{
+    struct dice d = { 3 };
+    struct mood m = { LOCKTABLE_THREADS, LOCKTABLE_RESOURCES, 256, 0 };
+    struct locktable t;
+    int held = 0, waited = 0;
+    locktable_empty(&t);
+    while (held < HISTORIES || waited < HISTORIES) {
+        struct locktable_record e = draw_busy_record(&d, &m, &t, locktable_running(&t).running);
+        struct locktable_answer a = locktable_step(&t, e);
+        if (e.kind != LOCKTABLE_P || a.number != LOCKTABLE_ACCEPTED)
+            continue;
+        bool holds = locktable_resource(&t, e.argument).holder == e.thread;
+        expect(holds == (a.running == e.thread), "after a P its thread runs exactly if it holds the resource");
+        holds ? held++ : waited++;
+    }
+    printf("promises: after a P its thread runs exactly if it holds the resource: %d times it does, %d it waits\n", held, waited);
+}
+
 /* A history that goes on by itself: each event depends on its own table and dice alone. `heard` takes in all answers. */
 struct player {
     struct locktable table;
@@ -357,6 +415,8 @@ int main(void)
     queries_only_read();
     clock_runs_out();
     tables_drain();
+    tables_begin_anew();
+    running_holds();
     tables_in_turn();
     tables_at_once();
     tables_in_interrupts();

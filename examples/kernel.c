@@ -56,10 +56,10 @@ static int arrivals(unsigned turn)
 
 static int take_lock(uint8_t id)
 {
-    uint8_t holder = locktable_resource(&table, PRINTER).holder;
+    struct locktable_resource_answer lock = locktable_resource(&table, PRINTER);
     char words[32] = "takes the lock";
-    if (holder != LOCKTABLE_NOBODY)
-        snprintf(words, sizeof words, "waits for %s", name(holder));
+    if (lock.number == LOCKTABLE_ACCEPTED && lock.holder != LOCKTABLE_NOBODY)
+        snprintf(words, sizeof words, "waits for %s", name(lock.holder));
     return event(LOCKTABLE_P, id, PRINTER, words);
 }
 
@@ -88,5 +88,5 @@ int main(void)
         draw_ended |= id == DRAW && locktable_thread(&table, DRAW).number == LOCKTABLE_NOT_LIVE;
     }
     printf(label_ahead ? "label ran ahead of draw\n" : "label never ran ahead of draw\n");
-    return well && !label_ahead ? 0 : 1;
+    return well && !label_ahead && fflush(stdout) == 0 ? 0 : 1;
 }

@@ -24,7 +24,8 @@
  *     Arguments and answers go by general registers, so the caller may be compiled without SSE
  *     (-mgeneral-regs-only).
  *   - Up to 2 KiB of stack (measured; bench/FIGURES.md). The red zone is used, the 128 bytes below the stack
- *     pointer: no interrupt may write there.
+ *     pointer: no interrupt may write there. In ring 0 the processor itself does so, at an interrupt that
+ *     stays on this stack; there a call needs interrupts switched off, and NMIs a stack of their own (IST).
  *   - Indirect branch tracking (IBT, a part of CET) switched off during the call. No function here begins
  *     with endbr64, and locktable_step has an indirect jump inside: it would fault even if it is called
  *     directly. The archive is not marked as fit for IBT (it has no .note.gnu.property).
@@ -125,7 +126,11 @@ struct locktable {
 /* EVENTS
  *
  * Create may come from anyone, the others only from the running thread. "Now" is the clock before the
- * event. */
+ * event. Priorities are 0 to 255, and greater is more urgent.
+ *
+ * A live thread that waits for no resource is taken to want the processor: there is no event for a thread
+ * that goes to sleep. A kernel whose threads sleep lets them release what they hold, ends them, and creates
+ * them anew when they wake. */
 enum locktable_kind {
     /* A thread that isn't live becomes so, its priority (the argument) set now. An id may come back after its
      * Exit. */
@@ -135,10 +140,11 @@ enum locktable_kind {
     /* The argument becomes its priority, set now, even if it was the same before. */
     LOCKTABLE_SET = 3,
     /* It requests a resource (the argument): it joins the end of the queue, and so holds the resource if that
-     * was free. */
+     * was free. If it was not, the thread waits, and is no longer the running one: so accepted is not yet
+     * held. It holds the resource exactly if the answer still names it as running. */
     LOCKTABLE_P = 4,
     /* It releases one: of those who wait the one of highest own precedence becomes holder, the rest keep
-     * their order. */
+     * their order. Who that is, locktable_resource tells. */
     LOCKTABLE_V = 5
 };
 
@@ -185,8 +191,11 @@ enum locktable_number {
  *
  * That is never above 79: at most 16 hold, one for each resource; at most 31 wait, since nobody waits for two
  * resources and the running thread for none; and at most 32 are live. So a kernel that allows Create, Set and
- * P only while LOCKTABLE_EVENTS_LEFT is above LOCKTABLE_DRAIN can always drain its table. (Tried, not
- * proved.) */
+ * P only while LOCKTABLE_EVENTS_LEFT is above LOCKTABLE_DRAIN can always drain its table.
+ *
+ * Where nobody holds anything, nobody need end: note the live threads by their time, call locktable_empty,
+ * and create each anew in that order, with its priority. The same thread runs then. (Tried, not proved, as
+ * is all of this.) */
 #define LOCKTABLE_DRAIN 79
 
 /* ANSWERS
@@ -227,7 +236,10 @@ LOCKTABLE_ABI void locktable_empty(struct locktable *t);
  * LOCKTABLE_NOT_SOUND reports LOCKTABLE_NOBODY. */
 LOCKTABLE_ABI struct locktable_answer locktable_step(struct locktable *t, struct locktable_record e);
 
-/* Queries change nothing. Who runs: 0 with the running thread, or LOCKTABLE_NOBODY if nobody is live.
+/* Queries change nothing. Look at the number first: where a query is refused the rest is zeros, and 0 is a
+ * thread and a resource like any other.
+ *
+ * Who runs: 0 with the running thread, or LOCKTABLE_NOBODY if nobody is live.
  * Refused with LOCKTABLE_NOT_SOUND, and LOCKTABLE_NOBODY. */
 LOCKTABLE_ABI struct locktable_running_answer locktable_running(const struct locktable *t);
 
