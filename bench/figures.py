@@ -29,6 +29,8 @@ KINDS = {
     'create': 'Create', 'exit': 'Exit', 'set': 'Set', 'p_free': 'P, free', 'p_taken': 'P, taken',
     'v_last': 'V, nobody waits', 'v_heir': 'V, somebody waits', 'refused': 'refused',
 }
+EVENTS, P, V = ['', 'Create', 'Exit', 'Set', 'P', 'V'], 4, 5
+RESOURCES, MARKS = 16, 64  # MARKS as in crates/slots/src/times.rt
 CALLS = ['step', 'running', 'thread', 'resource', 'empty']
 # How the names of each version's calls begin, and the head of its column.
 VERSIONS = {'locktable': 'ours', 'fast': 'fast.c', 'best': 'best.c', 'nosse': 'fast.c without SSE'}
@@ -203,16 +205,18 @@ and in `best.c`, so that it compares each with all others.
 {step}
 ## The worst tables found
 
-`bench/run --search` looks for the sound table and the event whose step executes the most instructions: by chance first,
-then by small changes of the best ones. That gives a lower bound on the worst case and no proof. What it found is in
-`bench/worst`, in a form that can be read (`bench/trial.h`). Searches from several seeds came to the same figure or
-within one in a hundred of it.
+`bench/run --search` looks for the table and the record whose step takes the most instructions: by chance, and then by
+small changes to the dearest that it has. What it finds is a lower bound and no proof: there may be a worse table.
+Searches from several seeds came to the same figure, or within one in a hundred of it. The worst that were found are kept
+in `bench/worst`, with every number in them, and are counted here like the other histories.
 
-For ours: {found_ours}
+Dear for both are waiters: the test passes over each of them in its queue, on the way to its holder and for the holder's
+precedence. A V passes once more over those who wait for what it releases, to find who follows, to move up those behind
+and to work out the new holder, and over those who wait for what its thread still holds. Dear for ours are besides set
+times that share a mark, since each is compared with all others, and ids that rise from waiters to holders, since the
+circle test then starts anew from more of them.
 
-For `fast.c`: {found_fast}
-
-{found}
+{worst}
 ## The test whether the table is sound
 
 The test alone: the function `soundness::check::check` of the library, and `fast_look` in `fast.c` and `best_look` in
@@ -246,7 +250,7 @@ or by hand, after it has built the programs once:
     bench/count -s -f locktable_step -f best_step target/bench/cost vector crates/drill_vectors/data/small.in
     bench/count -s -f locktable_step -f nosse_step target/bench/cost live 32 3000
     bench/count -f soundness::check::check -f fast_look -f best_look target/bench/cost chain falling 64
-    bench/count -f locktable_step -f fast_step target/bench/cost trial bench/worst/ours
+    bench/count -f locktable_step -f fast_step target/bench/cost trial bench/worst/ours.table
     bench/stack target/bench/cost
 
 The names of `fast.c` without SSE begin with `nosse_`. `bench/count` with `-f ours_p_taken -f fast_p_taken` and so on
@@ -269,29 +273,67 @@ def found_parts(counts):
     return table(['', 'step', 'soundness test', 'the rest'], rows)
 
 
-def counted(n, what):
-    return f'{n} {what}' if n == 1 else f'{n} {what}s'
+def read_table(path):
+    """A table as bench/trial.h says: the record, thread -> its four numbers, and resource -> holder and waiters."""
+    found = {'record': [], 'thread': {}, 'resource': {}}
+    for line in open(path):
+        word, *rest = line.split()
+        if word in ('thread', 'resource'):
+            found[word][int(rest[0])] = [int(n) for n in rest[1:]]
+        elif word == 'record':
+            found['record'] = [int(n) for n in rest]
+    return found
 
 
-def read_trial(path):
-    """The lines of a trial as text: a first word and numbers."""
-    words = [line.split() for line in open(path) if not line.startswith('#')]
-    return [(w[0], [int(n) for n in w[1:]]) for w in words if w]
+def longest_chain(queues):
+    """The most holders on a way from a waiter to its holder, from there to whom that one waits for, and so on."""
+    up = {waiter: queue[0] for queue in queues.values() for waiter in queue[1:]}
+    most = 0
+    for thread in up:
+        holders = 0
+        while thread in up:
+            thread, holders = up[thread], holders + 1
+        most = max(most, holders)
+    return most
 
 
-def described(path):
-    """A trial in a sentence: its event, who is live, who holds and who waits."""
-    lines = read_trial(path)
-    kind, thread, argument, _ = next(n for word, n in lines if word == 'record')
-    threads = [n for word, n in lines if word == 'thread']
-    queues = {n[0]: n[1:] for word, n in lines if word == 'resource'}
-    event = {4: f'P of resource {argument}', 5: f'V of resource {argument}'}.get(kind, f'kind {kind}')
-    waiters = {r: len(q) - 1 for r, q in queues.items()}
-    contended = sum(1 for n in waiters.values() if n > 0)
-    return (f'{event} by thread {thread}, where {waiters.get(argument, 0)} wait.\n'
-            f'{counted(len(threads), "thread")} live, {sum(waiters.values())} waiting at {counted(contended, "resource")}, which '
-            f'{counted(len({q[0] for q in queues.values()}), "thread")} hold.\n'
-            f'The set times modulo 64: {counted(len({n[2] % 64 for n in threads}), "number")}.')
+def table_facts(found):
+    """What a kept table is like, and the record with it: words -> figure."""
+    kind, thread, argument, _ = found['record']
+    queues = found['resource']
+    of_resource = kind in (P, V)
+    waiters, holders = {t for q in queues.values() for t in q[1:]}, {q[0] for q in queues.values()}
+    there = set(queues.get(argument, [])[1:]) if of_resource else set()
+    return {
+        'the record': f'{EVENTS[kind]} by thread {thread}' + (f' of resource {argument}' if of_resource else ''),
+        'threads that wait for that resource': len(there),
+        'of these hold another one': len(there & holders),
+        'live threads': len(found['thread']),
+        'threads that wait': len(waiters),
+        'threads that hold': len(holders),
+        'resources that are held': len(queues),
+        'resources that are waited for': sum(len(q) > 1 for q in queues.values()),
+        'holders on the longest chain': longest_chain(queues),
+        'marks of the set times': len({numbers[1] % MARKS for numbers in found['thread'].values()}),
+    }
+
+
+def queue_rows(kept):
+    """Who holds each resource, and who waits for it, on both tables."""
+    rows = []
+    for r in range(RESOURCES):
+        queues = [[str(t) for t in found['resource'].get(r, [])] for found in kept]
+        rows.append([str(r)] + [cell for q in queues for cell in (' '.join(q[:1]), ' '.join(q[1:]))])
+    return rows
+
+
+def worst_found(counts):
+    """The tables of the section on what `--search` found."""
+    kept = [read_table(f'{BENCH}/worst/{side}.table') for side in ('ours', 'fast')]
+    ours, fast = (table_facts(found) for found in kept)
+    facts = [[words, str(ours[words]), str(fast[words])] for words in ours]
+    return '\n'.join([found_parts(counts), table(['', 'found for ours', 'found for `fast.c`'], facts),
+                      table(['resource', 'ours: holder', 'waiters', '`fast.c`: holder', 'waiters'], queue_rows(kept))])
 
 
 def page(counts, depths, version, compiler):
@@ -300,7 +342,7 @@ def page(counts, depths, version, compiler):
     return PAGE.format(version=version, compiler=compiler, plain=beside_plain(counts), verdict=verdict(counts, rows),
                        goals=table(['', 'ours', 'at most', 'which is', 'met'], rows),
                        step=history_tables(counts, [f'{name}_step' for name in VERSIONS]),
-                       found=found_parts(counts), found_ours=described(f'{BENCH}/worst/ours'), found_fast=described(f'{BENCH}/worst/fast'), sound=history_tables(counts, TESTS),
+                       worst=worst_found(counts), sound=history_tables(counts, TESTS),
                        queries=query_table(counts), kinds=kind_tables(counts) + '\n',
                        stack=stack_table(touched, depths), fast_frames=number(depths['fast_step']))
 

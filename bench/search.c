@@ -1,5 +1,5 @@
-/* Looks for the table and the record whose step costs the most: makes trials, and runs them for `count`. bench/search.py goes from one
-   round to the next. A file of trials has their bytes, one after another. */
+/* Makes the trials among which bench/search.py looks for the one whose step costs the most, and runs them for `count` to count. A file of
+   trials is their bytes, one after another. */
 #include <stdio.h>
 #include <stdlib.h>
 #include <string.h>
@@ -8,42 +8,44 @@
 #include "trial.h"
 
 static const char usage[] =
-    "search draw SEED N         N trials by chance, to standard output\n"
-    "search climb SEED N FILE   N trials that differ from those in the file by a few changes, as many from each\n"
-    "search run SIDE FILE       one step on each trial of the file, by `ours` or `fast`\n"
-    "search show FILE           the first trial of the file as text\n"
-    "search take FILE           the trial in a file of text, as bytes\n";
+    "search draw SEED N          writes N trials by chance\n"
+    "search climb SEED N FILE    writes N that differ from those of FILE by a few changes: the first from the first, and so on, round and round\n"
+    "search tidy FILE            writes the first trial of FILE with the same order of precedences in small numbers\n"
+    "search take TEXT            writes the trial that a text holds (bench/trial.h)\n"
+    "search show FILE            prints the first trial of FILE as text\n"
+    "search run ours|fast FILE   makes one step on each trial of FILE, by locktable_step or by fast_step\n";
 
-enum { SHARE_A_MARK = 64 /* MARKS in crates/slots/src/times.rt */, MOST_CHANGES = 4, MOST_TRIALS = 20000 };
+/* Set times that are equal modulo MARKS share a mark: crates/slots/src/times.rt. */
+enum { MARKS = 64, MOST_GAP = 2000, MOST_CHANGES = 4, MOST_CLIMBERS = 1024 };
 
-static uint8_t *queue_of(struct locktable *t, unsigned r) { return t->queue + LOCKTABLE_THREADS * r; }
-
-/* ---- Changes. Each may leave an unsound table, which is then dropped. */
+static uint8_t *queue_of(struct locktable *t, unsigned resource) { return t->queue + LOCKTABLE_THREADS * resource; }
 
 static unsigned any_thread(struct dice *d) { return roll(d, LOCKTABLE_THREADS); }
 
 static unsigned any_resource(struct dice *d) { return roll(d, LOCKTABLE_RESOURCES); }
 
-/* A place that is taken in the queue of r, or 0. */
-static unsigned any_place(struct dice *d, const struct locktable *t, unsigned r) { return roll(d, t->length[r] > 0 ? t->length[r] : 1); }
+/* The changes. Any of them may leave an unsound table, which is then thrown away. Where C would leave the order of two rolls open they stand
+   in two statements. */
+typedef void change(struct dice *, struct trial *);
 
-static void insert(struct locktable *t, unsigned r, unsigned place, unsigned thread)
+static void insert(struct locktable *t, unsigned resource, unsigned place, unsigned thread)
 {
-    uint8_t *queue = queue_of(t, r);
-    if (t->length[r] == LOCKTABLE_THREADS)
+    uint8_t *queue = queue_of(t, resource);
+    if (t->length[resource] == LOCKTABLE_THREADS)
         return;
-    memmove(queue + place + 1, queue + place, t->length[r] - place);
+    memmove(queue + place + 1, queue + place, t->length[resource] - place);
     queue[place] = (uint8_t)thread;
-    t->length[r]++;
+    t->length[resource]++;
 }
 
-static unsigned remove_from(struct locktable *t, unsigned r, unsigned place)
+/* Gives the thread that stood there. */
+static unsigned take_out(struct locktable *t, unsigned resource, unsigned place)
 {
-    uint8_t *queue = queue_of(t, r);
+    uint8_t *queue = queue_of(t, resource);
     unsigned thread = queue[place];
-    t->length[r]--;
-    memmove(queue + place, queue + place + 1, t->length[r] - place);
-    queue[t->length[r]] = 0;
+    t->length[resource]--;
+    memmove(queue + place, queue + place + 1, t->length[resource] - place);
+    queue[t->length[resource]] = 0;
     return thread;
 }
 
@@ -57,7 +59,7 @@ static void drop_entry(struct dice *d, struct trial *s)
 {
     unsigned r = any_resource(d);
     if (s->table.length[r] > 0)
-        remove_from(&s->table, r, any_place(d, &s->table, r));
+        take_out(&s->table, r, roll(d, s->table.length[r]));
 }
 
 static void move_entry(struct dice *d, struct trial *s)
@@ -66,7 +68,7 @@ static void move_entry(struct dice *d, struct trial *s)
     unsigned from = any_resource(d), to = any_resource(d);
     if (t->length[from] == 0)
         return;
-    unsigned thread = remove_from(t, from, any_place(d, t, from));
+    unsigned thread = take_out(t, from, roll(d, t->length[from]));
     insert(t, to, roll(d, t->length[to] + 1u), thread);
 }
 
@@ -77,19 +79,15 @@ static void swap_bytes(uint8_t *a, uint8_t *b)
     *b = kept;
 }
 
-static void swap_times(uint16_t *a, uint16_t *b)
-{
-    uint16_t kept = *a;
-    *a = *b;
-    *b = kept;
-}
-
+/* In one queue or in two. */
 static void swap_entries(struct dice *d, struct trial *s)
 {
+    struct locktable *t = &s->table;
     unsigned a = any_resource(d), b = roll(d, 2) == 0 ? a : any_resource(d);
-    unsigned at = any_place(d, &s->table, a), with = any_place(d, &s->table, b);
-    if (s->table.length[a] > 0 && s->table.length[b] > 0)
-        swap_bytes(queue_of(&s->table, a) + at, queue_of(&s->table, b) + with);
+    if (t->length[a] == 0 || t->length[b] == 0)
+        return;
+    unsigned place = roll(d, t->length[a]), other = roll(d, t->length[b]);
+    swap_bytes(queue_of(t, a) + place, queue_of(t, b) + other);
 }
 
 static void new_holder(struct dice *d, struct trial *s)
@@ -99,70 +97,67 @@ static void new_holder(struct dice *d, struct trial *s)
         queue_of(&s->table, r)[0] = (uint8_t)thread;
 }
 
-static void swap_slots(struct locktable *t, unsigned a, unsigned b)
+static unsigned other_of(unsigned x, unsigned a, unsigned b) { return x == a ? b : x == b ? a : x; }
+
+/* Two threads change ids, and nothing else. */
+static void exchange_threads(struct locktable *t, unsigned a, unsigned b)
 {
+    uint16_t kept = t->time[a];
+    t->time[a] = t->time[b];
+    t->time[b] = kept;
     swap_bytes(t->live + a, t->live + b);
     swap_bytes(t->priority + a, t->priority + b);
-    swap_times(t->time + a, t->time + b);
-}
-
-/* Two threads change their ids, and nothing else. */
-static void exchange_threads(struct trial *s, unsigned a, unsigned b)
-{
-    swap_slots(&s->table, a, b);
     for (unsigned r = 0; r < LOCKTABLE_RESOURCES; r++)
-        for (unsigned i = 0; i < s->table.length[r]; i++) {
-            uint8_t *id = queue_of(&s->table, r) + i;
-            *id = (uint8_t)(*id == a ? b : *id == b ? a : *id);
-        }
-}
-
-static void exchange_resources(struct trial *s, unsigned a, unsigned b)
-{
-    for (unsigned i = 0; i < LOCKTABLE_THREADS; i++)
-        swap_bytes(queue_of(&s->table, a) + i, queue_of(&s->table, b) + i);
-    swap_bytes(s->table.length + a, s->table.length + b);
-    if (s->record.kind >= LOCKTABLE_P)
-        s->record.argument = (uint8_t)(s->record.argument == a ? b : s->record.argument == b ? a : s->record.argument);
+        for (unsigned i = 0; i < t->length[r]; i++)
+            queue_of(t, r)[i] = (uint8_t)other_of(queue_of(t, r)[i], a, b);
 }
 
 static void swap_threads(struct dice *d, struct trial *s)
 {
-    unsigned a = any_thread(d);
-    exchange_threads(s, a, any_thread(d));
+    unsigned a = any_thread(d), b = any_thread(d);
+    exchange_threads(&s->table, a, b);
 }
 
-/* One id goes up or down, and those in between move over by one. */
+/* One thread gets another id, and those in between move over by one. */
 static void shift_thread(struct dice *d, struct trial *s)
 {
     unsigned from = any_thread(d), to = any_thread(d);
     for (; from < to; from++)
-        exchange_threads(s, from, from + 1);
+        exchange_threads(&s->table, from, from + 1);
     for (; from > to; from--)
-        exchange_threads(s, from, from - 1);
+        exchange_threads(&s->table, from, from - 1);
 }
 
-static void shift_resource(struct dice *d, struct trial *s)
+static void swap_resources(struct dice *d, struct trial *s)
 {
-    unsigned from = any_resource(d), to = any_resource(d);
-    for (; from < to; from++)
-        exchange_resources(s, from, from + 1);
-    for (; from > to; from--)
-        exchange_resources(s, from, from - 1);
+    unsigned a = any_resource(d), b = any_resource(d);
+    for (unsigned i = 0; i < LOCKTABLE_THREADS; i++)
+        swap_bytes(queue_of(&s->table, a) + i, queue_of(&s->table, b) + i);
+    swap_bytes(s->table.length + a, s->table.length + b);
+    if (s->record.kind >= LOCKTABLE_P)
+        s->record.argument = (uint8_t)other_of(s->record.argument, a, b);
 }
 
+/* Any priority, or one at or beside another thread's. */
 static void new_priority(struct dice *d, struct trial *s)
 {
-    unsigned thread = any_thread(d), other = any_thread(d);
+    unsigned thread = any_thread(d), near = s->table.priority[any_thread(d)] + roll(d, 3);
     if (s->table.live[thread])
-        s->table.priority[thread] = (uint8_t)(roll(d, 2) == 0 ? roll(d, 256) : s->table.priority[other] + roll(d, 3) - 1);
+        s->table.priority[thread] = (uint8_t)(roll(d, 2) == 0 ? near - 1 : roll(d, 256));
+}
+
+/* Any time, but most often one that shares a mark with many. */
+static void set_time(struct dice *d, struct locktable *t, unsigned thread)
+{
+    unsigned time = roll(d, t->clock + 1u);
+    t->time[thread] = (uint16_t)(roll(d, 4) == 0 ? time : time - time % MARKS);
 }
 
 static void new_time(struct dice *d, struct trial *s)
 {
-    unsigned thread = any_thread(d), time = roll(d, s->table.clock + 1u);
+    unsigned thread = any_thread(d);
     if (s->table.live[thread])
-        s->table.time[thread] = (uint16_t)(roll(d, 4) == 0 ? time : time - time % SHARE_A_MARK);
+        set_time(d, &s->table, thread);
 }
 
 static void new_clock(struct dice *d, struct trial *s) { s->table.clock = (uint16_t)roll(d, LOCKTABLE_EVENTS + 1); }
@@ -174,28 +169,25 @@ static void change_life(struct dice *d, struct trial *s)
     s->table.priority[thread] = 0;
     s->table.time[thread] = 0;
     if (s->table.live[thread])
-        new_time(d, s);
+        set_time(d, &s->table, thread);
 }
 
 static const struct mood all = { LOCKTABLE_THREADS, LOCKTABLE_RESOURCES, 256, 2 };
 
 static void new_record(struct dice *d, struct trial *s)
 {
-    s->record = draw_record(d, &all, &s->table, s->record.thread % LOCKTABLE_THREADS);
+    s->record = draw_record(d, &all, &s->table, model_running(&s->table).running);
 }
 
-/* What leads up more often stands more than once. */
-typedef void change(struct dice *, struct trial *);
+/* Those that lead on most often stand here more than once. */
 static change *const changes[] = {
     move_entry, move_entry, move_entry, new_holder, new_holder, new_holder, swap_entries, swap_entries, shift_thread, shift_thread,
-    swap_threads, swap_threads, new_priority, new_priority, add_entry, drop_entry, shift_resource, new_time, new_clock, change_life,
-    new_record,
+    swap_threads, swap_threads, new_priority, new_priority, swap_resources, add_entry, drop_entry, new_time, new_clock, change_life, new_record,
 };
 enum { CHANGES = sizeof changes / sizeof *changes };
 
-/* ---- Trials */
-
-static unsigned held_by(const struct locktable *t, unsigned thread, unsigned start)
+/* A resource that the thread holds, if there is one: the first from `start` on, round and round. */
+static unsigned held_from(const struct locktable *t, unsigned start, unsigned thread)
 {
     for (unsigned i = 0; i < LOCKTABLE_RESOURCES; i++) {
         unsigned r = (start + i) % LOCKTABLE_RESOURCES;
@@ -205,74 +197,83 @@ static unsigned held_by(const struct locktable *t, unsigned thread, unsigned sta
     return start;
 }
 
-/* Works out what follows from the rest: the current precedences, and that the record is by the running thread and its V of something held, since
-   a refusal costs less. False if the table is not sound. */
+/* Puts right what depends on the rest: the current precedences, and that the record is one of the running thread, a V one of what it holds,
+   since most refusals are cheap. False if the table is not sound, or nobody is live. */
 static bool settle(struct trial *s)
 {
     struct locktable_record *e = &s->record;
     model_set_currents(&s->table);
-    struct locktable_running_answer a = model_running(&s->table);
-    if (a.number != LOCKTABLE_ACCEPTED || a.running == LOCKTABLE_NOBODY)
+    unsigned runs = model_running(&s->table).running;
+    if (runs == LOCKTABLE_NOBODY)
         return false;
     if (e->kind != LOCKTABLE_CREATE)
-        e->thread = a.running;
+        e->thread = (uint8_t)runs;
     if (e->kind == LOCKTABLE_V)
-        e->argument = (uint8_t)held_by(&s->table, e->thread, e->argument % LOCKTABLE_RESOURCES);
+        e->argument = (uint8_t)held_from(&s->table, e->argument % LOCKTABLE_RESOURCES, runs);
     return true;
 }
 
-/* Set times in the same order, so far apart that all share a mark. */
-static void share_a_mark(struct locktable *t)
+/* Whether live thread a has a higher own precedence than live thread b. */
+static bool higher(const struct locktable *t, unsigned a, unsigned b)
 {
-    uint16_t time[LOCKTABLE_THREADS] = { 0 };
-    for (unsigned i = 0; i < LOCKTABLE_THREADS; i++)
-        for (unsigned k = 0; k < LOCKTABLE_THREADS; k++)
-            if (t->live[i] && t->live[k] && t->time[k] < t->time[i])
-                time[i] += SHARE_A_MARK;
-    memcpy(t->time, time, sizeof time);
-    t->clock = LOCKTABLE_THREADS * SHARE_A_MARK;
+    return t->live[a] && t->live[b] && (t->priority[a] > t->priority[b] || (t->priority[a] == t->priority[b] && t->time[a] < t->time[b]));
 }
 
+/* The same order of own precedences in small numbers: priorities from 0 up, and set times by ids, which all share a mark. */
+static void tidy(struct locktable *t)
+{
+    uint8_t rank[LOCKTABLE_THREADS] = { 0 };
+    for (unsigned a = 0; a < LOCKTABLE_THREADS; a++)
+        for (unsigned b = 0; b < LOCKTABLE_THREADS; b++)
+            rank[a] += higher(t, a, b);
+    for (unsigned i = 0; i < LOCKTABLE_THREADS; i++)
+        t->time[i] = t->live[i] ? (uint16_t)(MARKS * i) : 0;
+    memcpy(t->priority, rank, sizeof rank);
+    t->clock = MARKS * LOCKTABLE_THREADS;
+}
+
+/* A chain or any table, with set times that all share a mark or as they come, and a record of a history. */
 static void draw_trial(struct dice *d, struct trial *s)
 {
-    struct chain c;
     struct mood m = roll(d, 2) == 0 ? all : draw_mood(d);
     if (roll(d, 2) == 0) {
-        unsigned length = 1 + any_resource(d), waiting = roll(d, 101);
-        make_chain(d, length, waiting, 1, &s->table, &c);
+        struct chain c;
+        unsigned length = 1 + any_resource(d), waiting_percent = roll(d, 101), gap = roll(d, 2) == 0 ? MARKS : 1 + roll(d, MOST_GAP);
+        make_chain(d, length, waiting_percent, gap, &s->table, &c);
     } else {
         make_table(d, &m, &s->table);
+        if (roll(d, 2) == 0)
+            tidy(&s->table);
     }
-    if (roll(d, 2) == 0)
-        share_a_mark(&s->table);
     model_set_currents(&s->table);
     s->record = draw_record(d, &m, &s->table, model_running(&s->table).running);
 }
 
 static void write_trial(const struct trial *s) { fwrite(s, sizeof *s, 1, stdout); }
 
-static int draw(uint64_t seed, unsigned trials)
+static int draw(uint64_t seed, uint64_t trials)
 {
     struct dice d = { mix(seed) };
     struct trial s;
     while (trials > 0) {
         draw_trial(&d, &s);
-        if (settle(&s))
-            write_trial(&s), trials--;
+        if (settle(&s)) {
+            write_trial(&s);
+            trials--;
+        }
     }
     return 0;
 }
 
-static struct trial pool[MOST_TRIALS];
-
-static unsigned read_pool(const char *path)
+/* The trials of a file, up to so many of them. */
+static unsigned read_trials(const char *path, struct trial *to, unsigned most)
 {
     FILE *f = fopen(path, "rb");
-    if (f == 0) {
-        perror(path);
+    unsigned n = f != 0 ? (unsigned)fread(to, sizeof *to, most, f) : 0;
+    if (n == 0) {
+        fprintf(stderr, "search: no trial in %s\n", path);
         exit(2);
     }
-    unsigned n = (unsigned)fread(pool, sizeof *pool, MOST_TRIALS, f);
     fclose(f);
     return n;
 }
@@ -282,53 +283,99 @@ static struct trial changed(struct dice *d, const struct trial *from)
     struct trial s;
     do {
         s = *from;
-        for (unsigned left = 1 + roll(d, 1 + roll(d, MOST_CHANGES)); left > 0; left--)
+        unsigned most = 1 + roll(d, MOST_CHANGES);
+        for (unsigned left = 1 + roll(d, most); left > 0; left--)
             changes[roll(d, CHANGES)](d, &s);
-    } while (!settle(&s) || memcmp(&s, from, sizeof s) == 0);
+    } while (!settle(&s));
     return s;
 }
 
-static int climb(uint64_t seed, unsigned trials, const char *path)
+static int climb(uint64_t seed, uint64_t trials, const char *path)
 {
+    static struct trial climbers[MOST_CLIMBERS];
     struct dice d = { mix(seed) };
-    unsigned parents = read_pool(path);
-    for (unsigned i = 0; i < trials && parents > 0; i++) {
-        struct trial s = changed(&d, pool + i % parents);
+    unsigned n = read_trials(path, climbers, MOST_CLIMBERS);
+    for (uint64_t i = 0; i < trials; i++) {
+        struct trial s = changed(&d, climbers + i % n);
         write_trial(&s);
     }
     return 0;
 }
 
-/* At one place each time, and the stack from a page's edge on, as in cost.c: memcpy's count depends on where its ends lie. */
-static _Alignas(64) struct locktable table;
-
-static int run(const char *side, const char *path)
+/* Each table at the same place, aligned, and the stack from a page's edge on, as in cost.c: memcpy's count depends on where its ends lie. */
+static int run(struct locktable_answer step(struct locktable *, struct locktable_record), const char *path)
 {
+    static _Alignas(64) struct locktable table;
     _Alignas(4096) volatile char page = 0;
     (void)page;
-    struct locktable_answer (*step)(struct locktable *, struct locktable_record) = strcmp(side, "ours") == 0 ? locktable_step : fast_step;
-    unsigned trials = read_pool(path);
-    for (unsigned i = 0; i < trials; i++) {
-        table = pool[i].table;
-        step(&table, pool[i].record);
+    struct trial s;
+    FILE *f = fopen(path, "rb");
+    if (f == 0) {
+        perror(path);
+        return 2;
     }
+    while (fread(&s, sizeof s, 1, f) == 1) {
+        table = s.table;
+        step(&table, s.record);
+    }
+    fclose(f);
     return 0;
+}
+
+static int write_tidied(const char *path)
+{
+    struct trial s;
+    read_trials(path, &s, 1);
+    tidy(&s.table);
+    if (!settle(&s))
+        return 2;
+    write_trial(&s);
+    return 0;
+}
+
+static int take(const char *path)
+{
+    struct trial s;
+    if (!read_trial(path, &s))
+        return 2;
+    write_trial(&s);
+    return 0;
+}
+
+static int show(const char *path)
+{
+    struct trial s;
+    read_trials(path, &s, 1);
+    print_trial(&s);
+    return 0;
+}
+
+static bool number(const char *word, uint64_t *n)
+{
+    char *end;
+    *n = strtoull(word, &end, 10);
+    return word[0] >= '0' && word[0] <= '9' && *end == 0;
 }
 
 int main(int argc, char **argv)
 {
-    const char *what = argc > 1 ? argv[1] : "";
-    struct trial s;
-    if (argc == 4 && strcmp(what, "draw") == 0)
-        return draw(strtoull(argv[2], 0, 10), (unsigned)strtoul(argv[3], 0, 10));
-    if (argc == 5 && strcmp(what, "climb") == 0)
-        return climb(strtoull(argv[2], 0, 10), (unsigned)strtoul(argv[3], 0, 10), argv[4]);
-    if (argc == 4 && strcmp(what, "run") == 0)
-        return run(argv[2], argv[3]);
-    if (argc == 3 && strcmp(what, "show") == 0 && read_pool(argv[2]) > 0)
-        return print_trial(pool), 0;
-    if (argc == 3 && strcmp(what, "take") == 0 && read_trial(argv[2], &s))
-        return write_trial(&s), 0;
+    const char *what = argc > 1 ? argv[1] : "", *side = argc > 2 ? argv[2] : "";
+    uint64_t seed, n;
+    bool numbers = argc > 3 && number(argv[2], &seed) && number(argv[3], &n);
+    if (argc == 4 && numbers && strcmp(what, "draw") == 0)
+        return draw(seed, n);
+    if (argc == 5 && numbers && strcmp(what, "climb") == 0)
+        return climb(seed, n, argv[4]);
+    if (argc == 3 && strcmp(what, "tidy") == 0)
+        return write_tidied(argv[2]);
+    if (argc == 3 && strcmp(what, "take") == 0)
+        return take(argv[2]);
+    if (argc == 3 && strcmp(what, "show") == 0)
+        return show(argv[2]);
+    if (argc == 4 && strcmp(what, "run") == 0 && strcmp(side, "ours") == 0)
+        return run(locktable_step, argv[3]);
+    if (argc == 4 && strcmp(what, "run") == 0 && strcmp(side, "fast") == 0)
+        return run(fast_step, argv[3]);
     fputs(usage, stderr);
     return 2;
 }

@@ -1,83 +1,105 @@
-"""search.py FOLDER SEED ROUNDS: looks for the table and the record whose step executes the most instructions, in ours and in fast.c.
+"""search.py OUT [--seed N] [--rounds N]: looks for the table and the record whose step executes the most instructions, of ours and of fast.c.
 
-First come trials by chance. Then each of the best ones is changed a little, again and again, and the dearer one of before and after goes
-on; after every fifth of the rounds half of them is given up. What is found stands in bench/worst, and is replaced only by a dearer one.
-FOLDER has the program `search`, and takes the files of trials."""
+First trials (bench/trial.h) are drawn by chance. The dearest of them climb: in each round every climber has children, which differ from it by a few
+changes, and the dearest child takes its place, unless it is cheaper. From time to time only the dearer half climbs on, until one climber has
+all the children. OUT has the program `search`, which makes the trials and runs them under `count`, and gets what that writes.
+
+The worst trials found so far are kept in bench/worst; a worse one takes the place of a kept one."""
+import argparse
 import os
 import platform
 import subprocess
-import sys
 
+HERE = os.path.dirname(os.path.abspath(__file__))
 STEPS = {'ours': 'locktable_step', 'fast': 'fast_step'}
-DRAWN, PARENTS, CHANGED = 20000, 16, 1600  # trials by chance, how many of them go on, and trials in a round
-SIZE = 758  # bytes of a trial: a table and a record
-BENCH = os.path.dirname(os.path.abspath(__file__))
+TRIAL = 754 + 4  # bytes: a table and a record
+DRAWN, CLIMBERS, HALVINGS, CHILDREN = 20000, 32, 5, 3000
+TRIALS, CLIMBING, CALLS, COUNTS = 'search.trials', 'search.climbing', 'search.calls', 'search.count'
+
+
+def program(*words):
+    """What `search` writes, as bytes."""
+    run = [] if platform.machine() == 'x86_64' else ['qemu-x86_64']
+    return subprocess.run(run + ['./search'] + [str(w) for w in words], stdout=subprocess.PIPE, check=True).stdout
 
 
 def cut(trials):
-    return [trials[i:i + SIZE] for i in range(0, len(trials), SIZE)]
+    return [trials[i:i + TRIAL] for i in range(0, len(trials), TRIAL)]
 
 
-def make(folder, *words):
-    """What the program `search` writes for these words."""
-    emulator = [] if platform.machine() == 'x86_64' else ['qemu-x86_64']
-    return subprocess.run(emulator + [f'{folder}/search'] + [str(w) for w in words], stdout=subprocess.PIPE, check=True).stdout
-
-
-def save(path, trials):
+def write(path, trials):
     with open(path, 'wb') as f:
         f.write(b''.join(trials))
 
 
-def count(folder, side, trials):
-    """The instructions of the step on each trial."""
-    save(f'{folder}/trials', trials)
-    words = ['-t', '0', '-f', STEPS[side], '-e', f'{folder}/each', f'{folder}/search', 'run', side, f'{folder}/trials']
-    subprocess.run([f'{BENCH}/count'] + words, stderr=subprocess.DEVNULL, check=True)
-    counts = [int(line.split()[1]) for line in open(f'{folder}/each')]
-    if len(counts) != len(trials):
-        sys.exit(f'search.py: {len(trials)} trials and {len(counts)} counts')
-    return counts
+def counted(side, trials):
+    """Each trial with what its step costs before it."""
+    write(TRIALS, trials)
+    subprocess.run([f'{HERE}/count', '-t', '0', '-f', STEPS[side], '-e', CALLS, './search', 'run', side, TRIALS],
+                   env=dict(os.environ, COUNT_OUT=COUNTS), check=True)
+    costs = [int(line.split()[1]) for line in open(CALLS)]
+    assert len(costs) == len(trials), f'{len(trials)} trials, {len(costs)} counts'
+    return list(zip(costs, trials))
 
 
-def best_drawn(folder, side, seed):
-    """The dearest trials of many by chance, with their counts."""
-    trials = cut(make(folder, 'draw', seed, DRAWN))
-    counted = sorted(zip(count(folder, side, trials), trials), reverse=True)
-    return counted[:PARENTS]
+def dearest(found, most):
+    """So many of the dearest; of equals those that were found first."""
+    return sorted(found, key=lambda pair: -pair[0])[:most]
 
 
-def climb(folder, side, seed, rounds):
-    """The dearest trial that the rounds come to, with its count."""
-    parents = best_drawn(folder, side, seed)
-    print(f'{side}: {parents[0][0]} by chance', file=sys.stderr)
-    for i in range(1, rounds + 1):
-        save(f'{folder}/parents', [trial for _, trial in parents])
-        trials = cut(make(folder, 'climb', seed * rounds + i, CHANGED, f'{folder}/parents'))
-        for k, child in enumerate(zip(count(folder, side, trials), trials)):
-            at = k % len(parents)
-            if child[0] >= parents[at][0]:
-                parents[at] = child
-        if i * 5 // rounds > (i - 1) * 5 // rounds:
-            parents.sort(reverse=True)
-            parents = parents[:(len(parents) + 1) // 2]
-            print(f'{side}: {parents[0][0]} after round {i} of {rounds}', file=sys.stderr)
-    return max(parents)
+def climb(side, climbers, seed):
+    """One round. An equal child takes the climber's place too: so it comes past places where no single change makes it dearer."""
+    write(CLIMBING, [trial for _, trial in climbers])
+    after = list(climbers)
+    for i, child in enumerate(counted(side, cut(program('climb', seed, CHILDREN, CLIMBING)))):
+        k = i % len(climbers)
+        if child[0] >= after[k][0]:
+            after[k] = child
+    return after
 
 
-def search(folder, side, seed, rounds):
-    found, trial = climb(folder, side, seed, rounds)
-    path = f'{BENCH}/worst/{side}'
-    kept = count(folder, side, [make(folder, 'take', path)])[0] if os.path.exists(path) else 0
-    save(f'{folder}/found', [trial])
-    text = make(folder, 'show', f'{folder}/found').decode()
-    if found > kept:
-        os.makedirs(os.path.dirname(path), exist_ok=True)
-        with open(path, 'w') as f:
-            f.write(text)
-    words = f'written to bench/worst/{side}' if found > kept else f'nothing worse than the {kept} of bench/worst/{side}'
-    print(f'{side}: {found} instructions, {words}\n{text}')
+def tidied(side, found):
+    """The same with small numbers, unless that is cheaper."""
+    write(CLIMBING, [found[1]])
+    return max(counted(side, [program('tidy', CLIMBING), found[1]]), key=lambda pair: pair[0])
 
 
-for side in STEPS:
-    search(sys.argv[1], side, int(sys.argv[2]), int(sys.argv[3]))
+def search(side, seed, rounds):
+    """The dearest trial found, with its cost before it."""
+    climbers = dearest(counted(side, cut(program('draw', seed * 1000000, DRAWN))), CLIMBERS)
+    print(f'{side}: {climbers[0][0]:,} of {DRAWN:,} trials by chance', flush=True)
+    for n in range(1, rounds + 1):
+        climbers = dearest(climb(side, climbers, seed * 1000000 + n), CLIMBERS >> n * (HALVINGS + 1) // (rounds + 1))
+        if n * 10 // rounds > (n - 1) * 10 // rounds:
+            print(f'{side}: {climbers[0][0]:,} after {n} rounds, climbing: {len(climbers)}', flush=True)
+    return tidied(side, climbers[0])
+
+
+def keep(side, found, command):
+    """Writes the trial to bench/worst if it is worse than the kept one, and says what was found either way."""
+    path = f'{HERE}/worst/{side}.table'
+    cost, trial = found
+    kept = counted(side, [program('take', path)])[0][0] if os.path.exists(path) else 0
+    write(CLIMBING, [trial])
+    text = program('show', CLIMBING).decode()
+    print(f'{side}: the worst found takes {cost:,} instructions:\n{text}', end='')
+    if cost <= kept:
+        print(f'{side}: nothing worse was found than the kept one, which takes {kept:,}; bench/worst/{side}.table stays')
+        return
+    with open(path, 'w') as f:
+        f.write(f'# The worst table found for {STEPS[side]}, by {command}:\n# {cost:,} instructions then. bench/trial.h says how to read it.\n{text}')
+    print(f'{side}: worse than the kept one, which takes {kept:,}; written: bench/worst/{side}.table')
+
+
+def main():
+    words = argparse.ArgumentParser()
+    words.add_argument('out')
+    words.add_argument('--seed', type=int, default=1)
+    words.add_argument('--rounds', type=int, default=150)
+    given = words.parse_args()
+    os.chdir(given.out)
+    for side in STEPS:
+        keep(side, search(side, given.seed, given.rounds), f'bench/run --search --seed {given.seed} --rounds {given.rounds}')
+
+
+main()

@@ -4,30 +4,28 @@
 #include "model.h"
 #include "trial.h"
 
-/* A resource and its queue are the longest line: an id and as many as there are threads. */
-enum { MOST_NUMBERS = 1 + LOCKTABLE_THREADS };
+_Static_assert(sizeof(struct trial) == sizeof(struct locktable) + sizeof(struct locktable_record), "a trial has no gaps");
 
-static void print_thread(const struct locktable *t, unsigned i)
-{
-    printf("thread %u %u %u %u %u\n", i, t->priority[i], t->time[i], t->current_priority[i], t->current_time[i]);
-}
+/* The longest line is that of a resource: its id, and everybody in its queue. */
+enum { MOST_NUMBERS = 1 + LOCKTABLE_THREADS };
 
 static void print_resource(const struct locktable *t, unsigned r)
 {
-    printf("resource %u", r);
-    for (unsigned place = 0; place < t->length[r]; place++)
-        printf(" %u", t->queue[LOCKTABLE_THREADS * r + place]);
+    printf("resource %2u ", r);
+    for (unsigned i = 0; i < t->length[r]; i++)
+        printf(" %2u", t->queue[LOCKTABLE_THREADS * r + i]);
     printf("\n");
 }
 
 void print_trial(const struct trial *s)
 {
     const struct locktable *t = &s->table;
-    printf("record %u %u %u %u\n", s->record.kind, s->record.thread, s->record.argument, s->record.zero);
-    printf("clock %u\n", t->clock);
+    printf("# kind, thread, argument, zero\nrecord %u %u %u %u\n", s->record.kind, s->record.thread, s->record.argument, s->record.zero);
+    printf("clock %u\n# id, own priority and time, current priority and time\n", t->clock);
     for (unsigned i = 0; i < LOCKTABLE_THREADS; i++)
         if (t->live[i])
-            print_thread(t, i);
+            printf("thread %2u  %3u %5u  %3u %5u\n", i, t->priority[i], t->time[i], t->current_priority[i], t->current_time[i]);
+    printf("# id, holder, waiters\n");
     for (unsigned r = 0; r < LOCKTABLE_RESOURCES; r++)
         if (t->length[r] > 0)
             print_resource(t, r);
@@ -42,14 +40,14 @@ static void take_thread(const unsigned long n[5], struct locktable *t)
     t->current_time[n[0]] = (uint16_t)n[4];
 }
 
-static void take_resource(const unsigned long *n, unsigned entries, struct locktable *t)
+static void take_resource(const unsigned long *n, unsigned numbers, struct locktable *t)
 {
-    t->length[n[0]] = (uint8_t)entries;
-    for (unsigned place = 0; place < entries; place++)
-        t->queue[LOCKTABLE_THREADS * n[0] + place] = (uint8_t)n[1 + place];
+    t->length[n[0]] = (uint8_t)(numbers - 1);
+    for (unsigned i = 1; i < numbers; i++)
+        t->queue[LOCKTABLE_THREADS * n[0] + i - 1] = (uint8_t)n[i];
 }
 
-/* One line by its first word and its numbers; false if it is none of the form. */
+/* A line by its first word and its numbers; false if it is none of the four. */
 static bool take(const char *word, const unsigned long *n, unsigned numbers, struct trial *s)
 {
     if (strcmp(word, "record") == 0 && numbers == 4)
@@ -59,7 +57,7 @@ static bool take(const char *word, const unsigned long *n, unsigned numbers, str
     else if (strcmp(word, "thread") == 0 && numbers == 5 && n[0] < LOCKTABLE_THREADS)
         take_thread(n, &s->table);
     else if (strcmp(word, "resource") == 0 && numbers > 1 && n[0] < LOCKTABLE_RESOURCES)
-        take_resource(n, numbers - 1, &s->table);
+        take_resource(n, numbers, &s->table);
     else
         return false;
     return true;
@@ -72,10 +70,10 @@ static bool take_line(char *line, struct trial *s)
     const char *word = strtok(line, " \n");
     if (word == 0 || word[0] == '#')
         return true;
-    for (char *next, *end; (next = strtok(0, " \n")) != 0; numbers++) {
+    for (char *next = strtok(0, " \n"), *end; next != 0; next = strtok(0, " \n")) {
         if (numbers == MOST_NUMBERS)
             return false;
-        n[numbers] = strtoul(next, &end, 10);
+        n[numbers++] = strtoul(next, &end, 10);
         if (*end != 0)
             return false;
     }
@@ -97,6 +95,6 @@ bool read_trial(const char *path, struct trial *s)
     fclose(f);
     good = good && model_sound(&s->table);
     if (!good)
-        fprintf(stderr, "%s: not of the form that bench/trial.h says, or not a sound table\n", path);
+        fprintf(stderr, "%s: not a text as in bench/trial.h, or its table is not sound\n", path);
     return good;
 }
