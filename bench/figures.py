@@ -206,15 +206,17 @@ and in `best.c`, so that it compares each with all others.
 ## The worst tables found
 
 `bench/run --search` looks for the table and the record whose step takes the most instructions: by chance, and then by
-small changes to the dearest that it has. What it finds is a lower bound and no proof: there may be a worse table.
-Searches from several seeds came to the same figure, or within one in a hundred of it. The worst that were found are kept
-in `bench/worst`, with every number in them, and are counted here like the other histories.
+small changes to the dearest that it has. Any sound table will do, whether events lead to it or not. What it finds is a
+lower bound and no proof: there may be a worse table. Searches from several seeds came to the same figure, or within one
+in a hundred of it. The worst that were found are kept in `bench/worst`, with every number in them, and are counted here
+like the other histories.
 
-Dear for both are waiters: the test passes over each of them in its queue, on the way to its holder and for the holder's
-precedence. A V passes once more over those who wait for what it releases, to find who follows, to move up those behind
-and to work out the new holder, and over those who wait for what its thread still holds. Dear for ours are besides set
-times that share a mark, since each is compared with all others, and ids that rise from waiters to holders, since the
-circle test then starts anew from more of them.
+Dear for both are waiters: the test passes over each of them, and over each resource that is waited for. A V passes once
+more over those who wait for what it releases, to find who follows, to move up those behind and to work out the new
+holder, and over those who wait for what its thread still holds. Dear for ours are besides set times that share a mark,
+since each is compared with all others; ids that rise from waiters to holders, since the circle test then starts anew
+from more of them; and a high id of the thread that runs, before and after, since of all below it is asked whether they
+wait.
 
 {worst}
 ## The test whether the table is sound
