@@ -4,9 +4,12 @@ ghost use mathlib.Core.Path.{_≡_};
 ghost use Rattle.table.specs.Table.{empty};
 ghost use Rattle.queries.specs.Queries.{running-answer, thread-answer, resource-answer};
 ghost use Rattle.locks.specs.Answers.{answerOf};
+ghost use Rattle.log.specs.Keep.{Keeps};
+ghost use Rattle.locktable.specs.Four.{four-of};
 use locks::Answer;
 use locks::Record;
 use locks::step::step;
+use log::keep;
 use queries::ResourceAnswer;
 use queries::RunningAnswer;
 use queries::ThreadAnswer;
@@ -53,4 +56,12 @@ pub extern "C" fn locktable_resource(t: &Table, resource: u8) -> ResourceAnswer
     ensures { λ r. ⌜ (r ≡ resource-answer (now (t .entry)) resource) × (now (t .exit) ≡ now (t .entry)) ⌝ }
 {
     resource_of(*t, resource)
+}
+
+// A record is kept in the lent log, behind the `so_far` that it has.
+#[no_mangle]
+pub extern "C" fn locktable_log(log: &mut [u8], so_far: u32, e: Record) -> u8
+    ensures { λ r. ⌜ Keeps (now (log .entry)) «so_far» (four-of e) r (now (log .exit)) ⌝ }
+{
+    keep(log, so_far, [e.kind, e.thread, e.argument, e.zero])
 }

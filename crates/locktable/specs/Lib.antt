@@ -1,0 +1,2 @@
+-- What the contract of the log's call names.
+pub mod Four
