@@ -26,6 +26,7 @@ pub mod OneTable
 pub mod OneNumber
 pub mod AnyTable
 pub mod NothingFree
+pub mod Kept
 -- Demand 3 as it is used, and on an example.
 pub mod Used
 pub mod Played

@@ -12,3 +12,4 @@ pub mod Demand3
 -- What the contracts of the calls say, and functions that do it.
 pub mod Contracts
 pub mod Stated
+pub mod Kept
