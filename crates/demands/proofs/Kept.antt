@@ -8,47 +8,26 @@ use native.Mathlib.Decide.{ℕ-discrete}
 use native.Mathlib.Omega.{arith}
 use borrow.Author.Tests.{eq-eqb, ne-eqb}
 use lib.Dec.{eqb}
-use lib.ListN.{length, drop, getD, length-append}
+use lib.ListN.{length, drop, length-append}
 use Rattle.protocol.specs.Events.{State}
 use Rattle.table.specs.declared.Table.{Table}
 use Rattle.refusals.specs.declared.Record.{Record}
 use Rattle.log.specs.Bytes.{Bytes, Four, Fours}
-use Rattle.log.specs.Card.{start-after, blocks-for, log-of}
-use Rattle.log.specs.Keep.{Keeps, ended, short, other, kept}
+use Rattle.log.specs.Card.{blocks-for, log-of}
+use Rattle.log.specs.Keep.{Keeps}
 use Rattle.log.proofs.Numbers.{bytes-append, bytes-drop}
 use Rattle.log.proofs.Groups.{fours-append}
 use Rattle.log.proofs.Places.{bytes-log}
-use Rattle.log.proofs.Answers.{keeps-one, same-size}
 use Rattle.log.proofs.Written.{only-short}
 use Rattle.log.proofs.Fresh.{Kept-all, none, more, kept-all, all-same-size}
-use Rattle.log.proofs.Always.{always}
 use Rattle.locktable.specs.Four.{four-of}
 use Rattle.demands.specs.Memory.{Any-table, Any-record}
 use Rattle.demands.specs.Calls.{Calls}
 use Rattle.demands.specs.Runs.{Call, event, ask, Any-calls, table-after, number-of, History, none-yet, accepted, refused, asked}
 use Rattle.demands.specs.Demand2.{Demand-2}
-use Rattle.demands.specs.Kept.{Wrote, Log-call, Log-says, Log-stated, Log-fixed, records, log-after, Every-event-kept}
-
--- No two results satisfy the contract of the log's call for one input,
-pub log-one : (log : List ℕ) (n : ℕ) (e : Record) (a b : Wrote) → Log-says log n e a → Log-says log n e b → a ≡ b
-log-one log n e a b p q = let one = keeps-one p q in λ i. record { number = one .0 i; log = one .1 i }
-
--- and one does, for every input.
-abbrev pub the-log : Log-call
-the-log log n e = let a = always log n (four-of e) in record { number = a .number; log = a .left }
-
-pub log-stated : Log-stated the-log
-log-stated log n e bytes low any = always log n (four-of e) .keeps
-
--- Demand 1 of this call
-pub log-demand-1 : (k : Log-call) → Log-stated k → (log : List ℕ) (n : ℕ) (e : Record) → Bytes log → n < 4294967296 → Any-record e → Log-fixed log (k log n e)
-log-demand-1 k is log n e bytes low any = go (is log n e bytes low any)
-  where
-    go : {a : ℕ} {l : List ℕ} → Keeps log n (four-of e) a l → Log-fixed log (record { number = a; log = l })
-    go (ended _) = inr (inl refl, refl)
-    go (short _ _) = inr (inr (inl refl), refl)
-    go (other _ _ _) = inr (inr (inr refl), refl)
-    go (kept _ _ _) = inl refl
+use Rattle.demands.specs.Kept.{Wrote, Log-call, Log-stated, records, log-after, Every-event-kept}
+use Rattle.demands.proofs.TheCalls.{the-calls, demand-2-met}
+use Rattle.demands.proofs.LogCall.{the-log, log-stated}
 
 -- a record's bytes are four
 four-bytes : (e : Record) → Any-record e → Four (four-of e)
@@ -136,9 +115,9 @@ module _ (c : Calls) (k : Log-call) (d₂ : Demand-2 c) (is : Log-stated k) wher
     all-kept [] any room = none
     all-kept (event e ∷ ks) any room = by-cases (ℕ-discrete (number-of c t ks e) 0)
         (λ z. let more-than = ap length (more-records c t ks e z) ∙ length-append (records c t ks) (four-of e ∷ []) in
-            let all = all-kept ks (any .1) (omega (arith, more-than)) in
-            let kept-too = ⊎-elim (λ w. w .0) (λ w. absurd (omega (arith, w .1))) (told ks e any z all) in
-            rw (eq-eqb (number-of c t ks e) 0 z) (more all (rw kept-too at (keeps ks e any z all))))
+        let all = all-kept ks (any .1) (omega (arith, more-than)) in
+        let kept-too = ⊎-elim (λ w. w .0) (λ w. absurd (omega (arith, w .1))) (told ks e any z all) in
+        rw (eq-eqb (number-of c t ks e) 0 z) (more all (rw kept-too at (keeps ks e any z all))))
         (λ n. rw (ne-eqb (number-of c t ks e) 0 n) (all-kept ks (any .1) (rw (same-records c t ks e n) at room)))
     all-kept (ask q ∷ ks) any room = all-kept ks (any .1) room
 
@@ -149,3 +128,7 @@ every-event-kept c k d₂ is = record {
   kept = λ t fresh ks held bytes any room. kept-all (fours c t ks any) (all-kept c k d₂ is t fresh held bytes ks any room);
   answered = λ t fresh ks e held bytes any room z. told c k d₂ is t fresh held bytes ks e any z (all-kept c k d₂ is t fresh held bytes ks (any .1) room);
 }
+
+-- So do the functions that the contracts name, with no premise at all.
+pub every-event-kept-met : Every-event-kept the-calls the-log
+every-event-kept-met = every-event-kept the-calls the-log demand-2-met log-stated

@@ -16,6 +16,9 @@ pub mod Demand1
 pub mod Demand2
 pub mod Demand3
 pub mod TheCalls
+-- The log's call, and that every accepted event is kept.
+pub mod LogCall
+pub mod Kept
 -- That the demands speak of the calls' own contracts, and of what these take.
 pub mod Contracts
 pub mod Types
@@ -26,7 +29,6 @@ pub mod OneTable
 pub mod OneNumber
 pub mod AnyTable
 pub mod NothingFree
-pub mod Kept
 -- Demand 3 as it is used, and on an example.
 pub mod Used
 pub mod Played

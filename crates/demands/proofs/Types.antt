@@ -5,7 +5,7 @@ use mathlib.Core.Logic.{_↔_}
 use mathlib.Core.List.{List, [], _∷_, map}
 use native.Mathlib.Omega.{arith}
 use lib.ListN.{length-map}
-use mir.Syntax.{Width, w8, w16, named}
+use mir.Syntax.{Width, w8, w16, w32, named}
 use mir.Val.{Val, vint, bits}
 use base.Fml.{Lft}
 use denote.Shadow.{shadow}
@@ -14,6 +14,7 @@ use denote.Array as value
 use denote.Array.{each}
 use denote.Laws.{Is}
 use denote.Ref.{MutRef, ShrRef}
+use denote.Slice.{MutSlice}
 use denote.Signature.{typesAt}
 use denote.Struct.Laws.{vals, owes, owed}
 use Rattle.table.specs.declared.Table.{Table}
@@ -29,6 +30,7 @@ use Rattle.locktable.proofs.locktable_step as step
 use Rattle.locktable.proofs.locktable_running as running
 use Rattle.locktable.proofs.locktable_thread as thread
 use Rattle.locktable.proofs.locktable_resource as resource
+use Rattle.locktable.proofs.locktable_log as log
 use Rattle.demands.specs.Memory.{Array, Any-table, Any-record}
 
 -- An array of numbers of one width, of which `highest` is the highest.
@@ -102,3 +104,7 @@ thread-takes κ = refl
 
 pub resource-takes : (κ : Lft) → typesAt (resource.signature .params) (κ, tt) ≡ ShrRef (named 0) κ table.the-row ∷ (UInt w8 ∷ [])
 resource-takes κ = refl
+
+-- The log's call is given a borrow of bytes, a number of 32 bits and a record.
+pub log-takes : (κ : Lft) → typesAt (log.signature .params) (κ, tt) ≡ MutSlice (named 0) κ (UInt w8) ∷ (UInt w32 ∷ (four-bytes.the-row ∷ []))
+log-takes κ = refl

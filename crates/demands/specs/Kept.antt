@@ -55,8 +55,8 @@ pub record Every-event-kept (c : Calls) (k : Log-call) : Type 0 where
   -- the records are as many as the clock says
   pub counted : (t : Table) (ks : List Call) → Any-table t → Any-calls ks → table-after c t ks .clock ≡ length (records c t ks)
   pub kept : (t : Table) (fresh : List ℕ) (ks : List Call) → Any-table t → Bytes fresh → Any-calls ks → 512 * blocks-for (length (records c t ks)) ≤ length fresh
-    → log-after c k t fresh ks ≡ log-of (records c t ks) ++ drop (length (log-of (records c t ks))) fresh
+      → log-after c k t fresh ks ≡ log-of (records c t ks) ++ drop (length (log-of (records c t ks))) fresh
   -- and the call for an event that is accepted next answers 0 exactly if there is room for that one too, else 13
   pub answered : (t : Table) (fresh : List ℕ) (ks : List Call) (e : Record) → Any-table t → Bytes fresh → Any-calls (event e ∷ ks) → 512 * blocks-for (length (records c t ks)) ≤ length fresh
-    → number-of c t ks e ≡ 0 → let a = k (log-after c k t fresh ks) (table-after c t ks .clock) e .number in
+      → number-of c t ks e ≡ 0 → let a = k (log-after c k t fresh ks) (table-after c t ks .clock) e .number in
       ((a ≡ 0) × (512 * blocks-for (length (records c t (event e ∷ ks))) ≤ length fresh)) ⊎ ((a ≡ 13) × (length fresh < 512 * blocks-for (length (records c t (event e ∷ ks)))))

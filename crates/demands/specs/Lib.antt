@@ -12,4 +12,5 @@ pub mod Demand3
 -- What the contracts of the calls say, and functions that do it.
 pub mod Contracts
 pub mod Stated
+-- The log's call, and the kernel that keeps its accepted events in a log.
 pub mod Kept
