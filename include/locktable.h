@@ -304,15 +304,15 @@ LOCKTABLE_ABI struct locktable_resource_answer locktable_resource(const struct l
  *         logged = locktable_log(log, sizeof log, table.clock - 1u, e);
  *
  * A refused event is not logged. A log belongs to one shipment, from one locktable_empty to the next: then
- * it begins anew with so_far 0, so whoever still needs the old one copies it before, or lends another buffer
- * from then on.
+ * it begins anew with so_far 0, so whoever still needs the old one copies it before, or lends another
+ * buffer from then on.
  *
  * If the log refuses, the table has taken the event all the same, and the log lacks it. Too short: the log
  * is whole up to the event before, and the same call may be made again on a larger buffer to which the log
  * was copied. Not as said: somebody wrote to the block, or so_far is wrong, as where the clock was read
  * after the event and nothing taken off. A kernel that cannot mend it should log no more in this shipment,
- * and say so: later records of that block are refused too, as a rule, but the first one of the next block is
- * not, since the call looks at no other block. The log would then have a gap.
+ * and say so: later records of that block are refused too, as a rule, but the first one of the next block
+ * is not, since the call looks at no other block. The log would then have a gap.
  *
  * What the check is good for: if any one byte of a good block is changed, or if two bytes of it that
  * differ are exchanged, the block is good no more (proved). What it is not good for: several changes can
