@@ -242,15 +242,17 @@ static void share(const uint8_t *at, size_t n)
 _Noreturn static void fail_log(int side, const struct log_call *c, const uint8_t answers[SIDES])
 {
     const uint8_t *want = side == 0 ? given : rooms[0], *block = block_of(c, given);
-    const char *name = sides[side].name, *of = side == 0 ? "as it was" : "model";
-    printf("FAILED: %s. seed %llu, test %llu, log call %llu\n", side == 0 ? "the model writes where it should not" : "differs from the model",
-           run.seed, run.test, run.event);
-    printf("  call log by %s, so_far %lu, size %zu, ", name, (unsigned long)c->so_far, c->size);
+    const char *name = sides[side].name, *other = side == 0 ? "given" : "model";
+    const char *words = side == 0 ? "writes where it should not" : "differs from the model";
+    printf("FAILED: %s %s. seed %llu, test %llu, log call %llu\n", name, words, run.seed, run.test, run.event);
+    printf("  call log, so_far %lu, size %zu, ", (unsigned long)c->so_far, c->size);
     printf("record %u %u %u %u\n", c->record.kind, c->record.thread, c->record.argument, c->record.zero);
-    printf("  model answers %u, %s answers %u\n", answers[0], name, answers[side]);
+    printf("  model    answers %u\n", answers[0]);
+    if (side > 0)
+        printf("  %-8s answers %u\n", name, answers[side]);
     for (size_t i = 0, shown = 0; i < in_use && shown < LOCKTABLE_BLOCK; i++)
         if (want[i] != rooms[side][i] && ++shown)
-            printf("  byte %td of the buffer: %s %u, %s %u\n", (ptrdiff_t)(i - c->begins), of, want[i], name, rooms[side][i]);
+            printf("  byte %td of the buffer: %s %u, %s %u\n", (ptrdiff_t)(i - c->begins), other, want[i], name, rooms[side][i]);
     if (block != 0)
         print_bytes("the block given:", block, LOCKTABLE_BLOCK);
     printf("  repeat it with bench/run --seed %llu --only %llu\n", run.seed, run.test);
