@@ -17,6 +17,8 @@ static const char usage[] =
     "                       anywhere, set times GAP apart; a request at the far end, then the release at the near one\n"
     "cost trial FILE        the event on the table that the file has (bench/trial.h)\n"
     "cost made EVENTS       one event on each of many made tables with up to 32 live threads, most of them waiting\n"
+    "cost log FROM TO       the log: in some blocks, the calls that find FROM records there, FROM + 1 and so on to TO, at most 124\n"
+    "cost refused N         the log: in these blocks, the calls that find N records there, one byte of them changed\n"
     "N, EVENTS and GAP are at least 1.\n";
 
 enum kind { CREATE, EXIT, SET, P_FREE, P_TAKEN, V_LAST, V_HEIR, REFUSED, KINDS };
@@ -30,6 +32,7 @@ struct side {
     struct locktable_running_answer (*running)(const struct locktable *);
     struct locktable_thread_answer (*thread)(const struct locktable *, uint8_t);
     struct locktable_resource_answer (*resource)(const struct locktable *, uint8_t);
+    uint8_t (*log)(uint8_t *, size_t, uint32_t, struct locktable_record);
     _Alignas(64) struct locktable table;
 };
 
@@ -47,7 +50,8 @@ struct side {
     { .name = #NAME,                                                                                                       \
       .steps = { NAME##_create, NAME##_exit, NAME##_set, NAME##_p_free,                                                    \
                  NAME##_p_taken, NAME##_v_last, NAME##_v_heir, NAME##_refused },                                           \
-      .empty = CALLS##_empty, .running = CALLS##_running, .thread = CALLS##_thread, .resource = CALLS##_resource }
+      .empty = CALLS##_empty, .running = CALLS##_running, .thread = CALLS##_thread, .resource = CALLS##_resource,          \
+      .log = CALLS##_log }
 
 STEPS(ours, locktable)
 STEPS(fast, fast)
@@ -253,6 +257,60 @@ static int chains(unsigned tables, unsigned gap)
     return 0;
 }
 
+/* A log for each side, aligned as the tables are. */
+_Alignas(64) static uint8_t logs[SIDES][LOCKTABLE_LOG_SIZE];
+
+static uint8_t *block_of(int side, uint32_t so_far) { return logs[side] + LOCKTABLE_BLOCK * (so_far / LOCKTABLE_BLOCK_RECORDS); }
+
+/* The same record in all logs. */
+static void log_record(uint32_t so_far, struct locktable_record e, uint8_t number)
+{
+    for (int i = 0; i < SIDES; i++) {
+        uint8_t got = sides[i].log(logs[i], sizeof logs[i], so_far, e);
+        if (got != number || memcmp(block_of(0, so_far), block_of(i, so_far), LOCKTABLE_BLOCK) != 0) {
+            fprintf(stderr, "cost: the log of %s is not as it should be at call %u\n", sides[i].name, calls + 1);
+            exit(1);
+        }
+    }
+    calls++;
+}
+
+/* The block that takes the next record, in all logs. A number is added to a byte in the midst of its records. */
+static void start_block(struct dice *d, uint32_t so_far, unsigned added)
+{
+    uint8_t *block = block_of(0, so_far);
+    make_block(d, logs[0], so_far);
+    block[8 + so_far % LOCKTABLE_BLOCK_RECORDS * 2] += (uint8_t)added;
+    for (int i = 1; i < SIDES; i++)
+        memcpy(block_of(i, so_far), block, LOCKTABLE_BLOCK);
+}
+
+/* The first blocks, and others whose numbers take two bytes: so many records are before them. */
+static const uint32_t blocks[] = { 0, LOCKTABLE_BLOCK_RECORDS, 261 * LOCKTABLE_BLOCK_RECORDS, 523 * LOCKTABLE_BLOCK_RECORDS };
+enum { BLOCKS = sizeof blocks / sizeof blocks[0], LAST_PLACE = LOCKTABLE_BLOCK_RECORDS - 1 };
+
+static int log_blocks(unsigned from, unsigned to)
+{
+    struct dice d = { 1 };
+    for (int i = 0; i < BLOCKS; i++) {
+        start_block(&d, blocks[i] + from, 0);
+        for (unsigned place = from; place <= to; place++)
+            log_record(blocks[i] + place, draw_any_record(&d), LOCKTABLE_ACCEPTED);
+    }
+    return 0;
+}
+
+/* Only the check tells that a byte of a record has changed: no refusal comes later. */
+static int log_refused(unsigned records)
+{
+    struct dice d = { 1 };
+    for (int i = 0; i < BLOCKS; i++) {
+        start_block(&d, blocks[i] + records, 1);
+        log_record(blocks[i] + records, draw_any_record(&d), LOCKTABLE_LOG_NOT_AS_SAID);
+    }
+    return 0;
+}
+
 /* The number from 1 to the most, or 0 if the word is not one. */
 static unsigned number(const char *word, unsigned most)
 {
@@ -260,6 +318,9 @@ static unsigned number(const char *word, unsigned most)
     unsigned long n = strtoul(word, &end, 10);
     return *end == 0 && n <= most ? (unsigned)n : 0;
 }
+
+/* A place in a block, which may be 0. */
+static bool is_place(const char *word) { return strcmp(word, "0") == 0 || number(word, LAST_PLACE) > 0; }
 
 /* The history that the words name; 2 if they name none. A clock has 65,535 events, and 32 threads 2,000 apart fit in that. */
 static int history(int words, char **word)
@@ -281,6 +342,10 @@ static int history(int words, char **word)
         return chains(n, gap);
     if (words == 2 && strcmp(name, "made") == 0 && n > 0)
         return made(n);
+    if (words == 3 && strcmp(name, "log") == 0 && is_place(word[1]) && is_place(word[2]) && atoi(word[1]) <= atoi(word[2]))
+        return log_blocks((unsigned)atoi(word[1]), (unsigned)atoi(word[2]));
+    if (words == 2 && strcmp(name, "refused") == 0 && n > 0 && n <= LAST_PLACE)
+        return log_refused(n);
     fputs(usage, stderr);
     return 2;
 }

@@ -1,5 +1,5 @@
-/* The differential test: the library, fast.c, best.c and the model get the same tables and records by chance. After every call the
-   answers and all bytes of the tables must be equal.
+/* The differential test: the library, fast.c, best.c and the model get the same tables, logs and records by chance. After every call the
+   answers and all bytes of the tables and logs must be equal.
      differ [--seed N] [--tests N] [--only N]       tests 1 to N of a seed (6,000 of a fresh one), or only test N
      differ --drill model|fast|best|library FILE..  the listing of each file of records, by one side */
 #include <errno.h>
@@ -12,8 +12,13 @@
 
 /* Kinds: 0, the five of the header, and all beyond. A count is at most the number of resources: a chain has so many holders. */
 enum { NUMBERS = LOCKTABLE_STILL_HOLDS + 1, OTHER_KINDS = LOCKTABLE_V + 1, KINDS, COUNTS = LOCKTABLE_RESOURCES + 1, ANSWER = 6 };
-enum call { STEP, EMPTY, RUNNING, THREAD, RESOURCE, CALLS };
-static const char *const call_names[CALLS] = { "step", "empty", "running", "thread", "resource" };
+enum call { STEP, EMPTY, RUNNING, THREAD, RESOURCE, LOG, CALLS };
+static const char *const call_names[CALLS] = { "step", "empty", "running", "thread", "resource", "log" };
+/* What a log call comes to; 0 stands here twice. And the rules of a block that goes on: a bit each in the model's set. */
+enum outcome { FRESH, GOES_ON, RUN_OUT, TOO_SHORT, NOT_AS_SAID, OUTCOMES };
+static const char *const outcome_names[OUTCOMES] = { "0 fresh", "0 going on", "5", "13", "14" };
+enum { RULES = 5 };
+static const char *const rule_names[RULES] = { "number", "count", "spare bytes", "unused records", "check" };
 
 struct side {
     const char *name;
@@ -22,20 +27,22 @@ struct side {
     struct locktable_running_answer (*running)(const struct locktable *);
     struct locktable_thread_answer (*thread)(const struct locktable *, uint8_t);
     struct locktable_resource_answer (*resource)(const struct locktable *, uint8_t);
+    uint8_t (*log)(uint8_t *, size_t, uint32_t, struct locktable_record);
 };
 
 /* The model is first: it decides. */
 static const struct side sides[] = {
-    { "model", model_step, model_empty, model_running, model_thread, model_resource },
-    { "fast", fast_step, fast_empty, fast_running, fast_thread, fast_resource },
-    { "best", best_step, best_empty, best_running, best_thread, best_resource },
-    { "library", locktable_step, locktable_empty, locktable_running, locktable_thread, locktable_resource },
+    { "model", model_step, model_empty, model_running, model_thread, model_resource, model_log },
+    { "fast", fast_step, fast_empty, fast_running, fast_thread, fast_resource, fast_log },
+    { "best", best_step, best_empty, best_running, best_thread, best_resource, best_log },
+    { "library", locktable_step, locktable_empty, locktable_running, locktable_thread, locktable_resource, locktable_log },
 };
 enum { SIDES = sizeof sides / sizeof sides[0] };
 
 static struct {
     unsigned long long seed, test, event;
     unsigned long long calls[CALLS], steps[KINDS][NUMBERS], counts[COUNTS], damaged[2], broken[2], made[2]; /* unsound, sound */
+    unsigned long long outcomes[OUTCOMES], alone[RULES], several, places[LOCKTABLE_BLOCK_RECORDS]; /* of log calls */
 } run;
 
 /* Mixed twice, so that runs of neighbouring seeds have no test in common. */
@@ -71,11 +78,11 @@ static void print_answer(const char *name, const unsigned answer[ANSWER])
     printf("\n");
 }
 
-static void print_bytes(const char *title, const struct locktable *t)
+static void print_bytes(const char *title, const void *bytes, size_t n)
 {
     printf("  %s", title);
-    for (size_t i = 0; i < sizeof *t; i++)
-        printf("%s%02x", i % 64 == 0 ? "\n    " : "", ((const uint8_t *)t)[i]);
+    for (size_t i = 0; i < n; i++)
+        printf("%s%02x", i % 64 == 0 ? "\n    " : "", ((const uint8_t *)bytes)[i]);
     printf("\n");
 }
 
@@ -90,7 +97,7 @@ _Noreturn static void fail(const struct side *s, enum call call, const struct lo
     for (size_t i = 0; i < sizeof *given; i++)
         if (want[i] != got[i])
             printf("  byte %zu of the table: model %u, %s %u\n", i, want[i], s->name, got[i]);
-    print_bytes("the table given:", given);
+    print_bytes("the table given:", given, sizeof *given);
     printf("  repeat it with bench/run --seed %llu --only %llu\n", run.seed, run.test);
     exit(1);
 }
@@ -203,7 +210,204 @@ static void start(struct dice *d, struct mood *m, struct locktable *t)
         t->clock = (uint16_t)(LOCKTABLE_EVENTS - roll(d, 40));
 }
 
-/* Test number n: one history, with damaged tables on the way; then noise. */
+/* Each side writes its log in a room of its own. A log begins at any address in there, not only where the processor likes it, and has
+   bytes around it that nobody may touch. The rooms are equal to `given`, so far as they are in use, but for the time of a call. */
+enum { EDGE = 64, ROOM = EDGE + LOCKTABLE_LOG_SIZE + LOCKTABLE_BLOCK + EDGE };
+static uint8_t rooms[SIDES][ROOM], given[ROOM];
+static size_t in_use;
+
+/* A call of the log: where it begins in a room, and the arguments. */
+struct log_call {
+    size_t begins, size;
+    uint32_t so_far;
+    struct locktable_record record;
+};
+
+static size_t start_of_block(uint32_t so_far) { return (size_t)(so_far / LOCKTABLE_BLOCK_RECORDS) * LOCKTABLE_BLOCK; }
+
+/* The block that takes the record, or null if there is none: then the call is refused before it looks. */
+static uint8_t *block_of(const struct log_call *c, uint8_t room[ROOM])
+{
+    bool there = c->so_far < LOCKTABLE_EVENTS && start_of_block(c->so_far) + LOCKTABLE_BLOCK <= c->size;
+    return there ? room + c->begins + start_of_block(c->so_far) : 0;
+}
+
+/* Bytes in all rooms, beginning where they do in `given`. */
+static void share(const uint8_t *at, size_t n)
+{
+    for (int i = 0; i < SIDES; i++)
+        memcpy(rooms[i] + (at - given), at, n);
+}
+
+_Noreturn static void fail_log(int side, const struct log_call *c, const uint8_t answers[SIDES])
+{
+    const uint8_t *want = side == 0 ? given : rooms[0], *block = block_of(c, given);
+    const char *name = sides[side].name, *other = side == 0 ? "given" : "model";
+    const char *words = side == 0 ? "writes where it should not" : "differs from the model";
+    printf("FAILED: %s %s. seed %llu, test %llu, log call %llu\n", name, words, run.seed, run.test, run.event);
+    printf("  call log, so_far %lu, size %zu, ", (unsigned long)c->so_far, c->size);
+    printf("record %u %u %u %u\n", c->record.kind, c->record.thread, c->record.argument, c->record.zero);
+    printf("  model    answers %u\n", answers[0]);
+    if (side > 0)
+        printf("  %-8s answers %u\n", name, answers[side]);
+    for (size_t i = 0, shown = 0; i < in_use && shown < LOCKTABLE_BLOCK; i++)
+        if (want[i] != rooms[side][i] && ++shown)
+            printf("  byte %td of the buffer: %s %u, %s %u\n", (ptrdiff_t)(i - c->begins), other, want[i], name, rooms[side][i]);
+    if (block != 0)
+        print_bytes("the block given:", block, LOCKTABLE_BLOCK);
+    printf("  repeat it with bench/run --seed %llu --only %llu\n", run.seed, run.test);
+    exit(1);
+}
+
+/* Whether the model has changed nothing but that block, and not even that if it refuses. */
+static bool model_keeps_to_its_block(const struct log_call *c, uint8_t answer)
+{
+    const uint8_t *block = block_of(c, rooms[0]);
+    if (answer != LOCKTABLE_ACCEPTED)
+        return memcmp(rooms[0], given, in_use) == 0;
+    size_t before = (size_t)(block - rooms[0]), behind = before + LOCKTABLE_BLOCK;
+    return memcmp(rooms[0], given, before) == 0 && memcmp(rooms[0] + behind, given + behind, in_use - behind) == 0;
+}
+
+/* Counts what came up. */
+static void note_outcome(const struct log_call *c, uint8_t answer)
+{
+    unsigned place = c->so_far % LOCKTABLE_BLOCK_RECORDS;
+    run.calls[LOG]++;
+    switch (answer) {
+    case LOCKTABLE_ACCEPTED: run.places[place]++; run.outcomes[place == 0 ? FRESH : GOES_ON]++; return;
+    case LOCKTABLE_CLOCK_RUN_OUT: run.outcomes[RUN_OUT]++; return;
+    case LOCKTABLE_LOG_TOO_SHORT: run.outcomes[TOO_SHORT]++; return;
+    default: run.outcomes[NOT_AS_SAID]++; break;
+    }
+    unsigned broken = model_broken_rules(block_of(c, given), c->so_far), alone = 0;
+    for (int i = 0; i < RULES; i++)
+        if (broken == 1u << i)
+            run.alone[i]++, alone = 1;
+    run.several += !alone;
+}
+
+/* All sides on rooms that are equal. What they write stays if the log is to go on; otherwise the rooms are as before. */
+static uint8_t compare_log(const struct log_call *c, bool stays)
+{
+    uint8_t answers[SIDES];
+    run.event++;
+    for (int i = 0; i < SIDES; i++)
+        answers[i] = sides[i].log(rooms[i] + c->begins, c->size, c->so_far, c->record);
+    if (!model_keeps_to_its_block(c, answers[0]))
+        fail_log(0, c, answers);
+    for (int i = 1; i < SIDES; i++)
+        if (answers[i] != answers[0] || memcmp(rooms[i], rooms[0], in_use) != 0)
+            fail_log(i, c, answers);
+    note_outcome(c, answers[0]);
+    if (answers[0] != LOCKTABLE_ACCEPTED)
+        return answers[0];
+    if (stays)
+        memcpy(block_of(c, given), block_of(c, rooms[0]), LOCKTABLE_BLOCK);
+    else
+        share(block_of(c, given), LOCKTABLE_BLOCK);
+    return answers[0];
+}
+
+/* A size from which the block is missing, or a part of it, often only the last byte. */
+static size_t short_size(struct dice *d, uint32_t so_far)
+{
+    size_t start = start_of_block(so_far);
+    switch (roll(d, 4)) {
+    case 0: return start + LOCKTABLE_BLOCK - 1;
+    case 1: return start;
+    case 2: return start + roll(d, LOCKTABLE_BLOCK);
+    default: return roll(d, (unsigned)start + 1);
+    }
+}
+
+/* 65,535 and what is above it, to the last number that there is. */
+static uint32_t late_so_far(struct dice *d)
+{
+    switch (roll(d, 4)) {
+    case 0: return LOCKTABLE_EVENTS;
+    case 1: return UINT32_MAX - roll(d, 2);
+    case 2: return LOCKTABLE_EVENTS + roll(d, LOCKTABLE_BLOCK_RECORDS);
+    default: return LOCKTABLE_EVENTS + roll(d, UINT32_MAX - LOCKTABLE_EVENTS);
+    }
+}
+
+/* Another number of records than the log has: a few more or less, some blocks more or less, or any. */
+static uint32_t wrong_so_far(struct dice *d, uint32_t so_far)
+{
+    uint32_t by = 1 + roll(d, 3);
+    switch (roll(d, 5)) {
+    case 0: return so_far + by;
+    case 1: return so_far - by;
+    case 2: return so_far + by * LOCKTABLE_BLOCK_RECORDS;
+    case 3: return so_far - by * LOCKTABLE_BLOCK_RECORDS;
+    default: return roll(d, LOCKTABLE_EVENTS);
+    }
+}
+
+/* The call on a block that is not as the log left it, by damage or by noise. */
+static void compare_damaged_log(struct dice *d, const struct log_call *c)
+{
+    uint8_t *block = block_of(c, given), kept[LOCKTABLE_BLOCK];
+    unsigned before = c->so_far % LOCKTABLE_BLOCK_RECORDS;
+    memcpy(kept, block, sizeof kept);
+    if (before == 0 || roll(d, 16) == 0)
+        draw_bytes(d, block, LOCKTABLE_BLOCK);
+    else
+        damage_block(d, block, before);
+    share(block, LOCKTABLE_BLOCK);
+    compare_log(c, false);
+    memcpy(block, kept, sizeof kept);
+    share(block, LOCKTABLE_BLOCK);
+}
+
+/* One call that leaves the log as it is. The log given is right, and so is the call, but for one thing at most. */
+static void compare_log_once(struct dice *d, struct log_call c)
+{
+    c.record = draw_any_record(d);
+    switch (roll(d, 8)) {
+    case 0: compare_log(&c, false); break;
+    case 1: c.size = short_size(d, c.so_far); compare_log(&c, false); break;
+    case 2: c.so_far = late_so_far(d); c.size = roll(d, (unsigned)c.size + 1); compare_log(&c, false); break;
+    case 3: c.so_far = wrong_so_far(d, c.so_far); compare_log(&c, false); break;
+    default: compare_damaged_log(d, &c); break;
+    }
+}
+
+/* A log with so many records, of which only the block that takes the next one need be there. Every second time the buffer ends with that
+   block, and every fourth with the next one. */
+static struct log_call start_log(struct dice *d)
+{
+    struct log_call c = { .begins = 1 + roll(d, EDGE), .so_far = draw_so_far(d) };
+    c.size = start_of_block(c.so_far) + LOCKTABLE_BLOCK;
+    switch (roll(d, 4)) {
+    case 0: c.size += roll(d, LOCKTABLE_BLOCK); break;
+    case 1: c.size += LOCKTABLE_BLOCK; break;
+    default: break;
+    }
+    in_use = c.begins + c.size + EDGE;
+    draw_bytes(d, given, in_use);
+    make_block(d, given + c.begins, c.so_far);
+    share(given, in_use);
+    return c;
+}
+
+/* Single calls first; then the log goes on, at times into the next block, to its buffer's end or to the last record. */
+static void logs(struct dice *d)
+{
+    struct log_call c = start_log(d);
+    run.event = 0;
+    for (unsigned left = 1 + roll(d, 24); left > 0; left--)
+        compare_log_once(d, c);
+    for (unsigned left = 1 + roll(d, roll(d, 4) == 0 ? 200 : 3); left > 0; left--) {
+        c.record = draw_any_record(d);
+        if (compare_log(&c, true) != LOCKTABLE_ACCEPTED)
+            break;
+        c.so_far++;
+    }
+}
+
+/* Test number n: one history, with damaged tables on the way; then noise; then a log. */
 static void test(unsigned long long n)
 {
     struct dice d = { seed_of(n) };
@@ -216,6 +420,22 @@ static void test(unsigned long long n)
     compare_all_queries(&t);
     fill_with_noise(&d, &t);
     compare_lone(&d, &m, t);
+    logs(&d);
+}
+
+static void print_log_totals(void)
+{
+    unsigned places = 0;
+    printf("log calls by answer:");
+    for (int i = 0; i < OUTCOMES; i++)
+        printf("%s %s: %llu", i > 0 ? "," : "", outcome_names[i], run.outcomes[i]);
+    printf("\nblocks refused because of one thing:");
+    for (int i = 0; i < RULES; i++)
+        printf(" %s %llu,", rule_names[i], run.alone[i]);
+    printf(" and of several: %llu\n", run.several);
+    for (int i = 0; i < LOCKTABLE_BLOCK_RECORDS; i++)
+        places += run.places[i] > 0;
+    printf("places of a block where a record was accepted: %u of %d\n", places, LOCKTABLE_BLOCK_RECORDS);
 }
 
 static void print_totals(void)
@@ -240,6 +460,23 @@ static void print_totals(void)
     printf("\ntables with 1 to 4 bytes changed: %llu unsound, %llu still sound\n", run.damaged[0], run.damaged[1]);
     printf("tables with at most one rule broken: %llu unsound, %llu still sound\n", run.broken[0], run.broken[1]);
     printf("made tables: %llu unsound, %llu sound\n", run.made[0], run.made[1]);
+    print_log_totals();
+}
+
+/* Of the log each answer, each thing that a block can be refused for, alone, and each place in a block. */
+static bool all_met_in_logs(void)
+{
+    bool met = true;
+    for (int i = 0; i < OUTCOMES; i++)
+        if (run.outcomes[i] == 0)
+            met = false, printf("FAILED: no log call was answered with %s\n", outcome_names[i]);
+    for (int i = 0; i < RULES; i++)
+        if (run.alone[i] == 0)
+            met = false, printf("FAILED: no block was refused because of its %s alone\n", rule_names[i]);
+    for (int i = 0; i < LOCKTABLE_BLOCK_RECORDS; i++)
+        if (run.places[i] == 0)
+            met = false, printf("FAILED: no record was accepted at place %d of a block\n", i);
+    return met;
 }
 
 /* A run that does not meet every refusal and every count, and an unsound table with every kind, tests less than it says. */
@@ -259,7 +496,7 @@ static bool all_met(void)
     for (int i = 0; i < KINDS; i++)
         if (run.steps[i][LOCKTABLE_NOT_SOUND] == 0)
             met = false, printf("FAILED: no unsound table was given an event of kind %d\n", i);
-    return met;
+    return all_met_in_logs() && met;
 }
 
 static int tests(unsigned long long from, unsigned long long to)
@@ -277,7 +514,7 @@ static int tests(unsigned long long from, unsigned long long to)
     print_totals();
     if (from != to && !all_met())
         return 1;
-    printf("all answers and all tables equal\n");
+    printf("all answers, all tables and all logs equal\n");
     return 0;
 }
 

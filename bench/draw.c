@@ -268,3 +268,86 @@ void fill_with_noise(struct dice *d, struct locktable *t)
     for (unsigned i = 0; i < sizeof *t; i++)
         bytes[i] = (uint8_t)roll(d, below);
 }
+
+struct locktable_record draw_any_record(struct dice *d)
+{
+    unsigned below = chance(d, 80) ? 256 : 2;
+    struct locktable_record e;
+    e.kind = (uint8_t)roll(d, below);
+    e.thread = (uint8_t)roll(d, below);
+    e.argument = (uint8_t)roll(d, below);
+    e.zero = (uint8_t)roll(d, below);
+    return e;
+}
+
+uint32_t draw_so_far(struct dice *d)
+{
+    enum { BLOCKS = LOCKTABLE_LOG_SIZE / LOCKTABLE_BLOCK, FEW = 5 };
+    unsigned which = roll(d, 8), number = roll(d, which == 0 ? BLOCKS : FEW);
+    if (which == 1)
+        number = BLOCKS - 1 - number;
+    uint32_t so_far = number * LOCKTABLE_BLOCK_RECORDS + (chance(d, 10) ? 0 : roll(d, LOCKTABLE_BLOCK_RECORDS));
+    return so_far < LOCKTABLE_EVENTS ? so_far : LOCKTABLE_EVENTS - 1;
+}
+
+/* Eight at a time: a log is long. */
+void draw_bytes(struct dice *d, uint8_t *bytes, size_t n)
+{
+    for (size_t i = 0; i < n; i += sizeof d->state) {
+        d->state = mix(d->state);
+        memcpy(bytes + i, &d->state, n - i < sizeof d->state ? n - i : sizeof d->state);
+    }
+}
+
+void make_block(struct dice *d, uint8_t *log, uint32_t so_far)
+{
+    for (uint32_t i = so_far - so_far % LOCKTABLE_BLOCK_RECORDS; i < so_far; i++)
+        model_log(log, LOCKTABLE_LOG_SIZE, i, draw_any_record(d));
+}
+
+static void mend_check(uint8_t block[LOCKTABLE_BLOCK])
+{
+    uint32_t check = model_check(block);
+    memcpy(block + LOCKTABLE_BLOCK - sizeof check, &check, sizeof check);
+}
+
+/* A place in one of the parts of a block: its number, the bytes of its count, the spare ones, the used records, the others, its check. */
+static unsigned draw_place(struct dice *d, unsigned records)
+{
+    enum { COUNT_AT = 4, SPARE_AT = 6, RECORDS_AT = 8, CHECK_AT = LOCKTABLE_BLOCK - 4 };
+    unsigned end = RECORDS_AT + 4 * records;
+    switch (roll(d, 7)) {
+    case 0: return roll(d, COUNT_AT);
+    case 1: return COUNT_AT;
+    case 2: return COUNT_AT + 1;
+    case 3: return SPARE_AT + roll(d, RECORDS_AT - SPARE_AT);
+    case 4: return RECORDS_AT + roll(d, end - RECORDS_AT);
+    case 5: return end + roll(d, CHECK_AT - end);
+    default: return CHECK_AT + roll(d, LOCKTABLE_BLOCK - CHECK_AT);
+    }
+}
+
+static void change_byte(struct dice *d, uint8_t *byte)
+{
+    switch (roll(d, 3)) {
+    case 0: *byte = (uint8_t)roll(d, 256); break;
+    case 1: *byte ^= (uint8_t)(1u << roll(d, 8)); break;
+    default: *byte = (uint8_t)(*byte + (chance(d, 50) ? 1 : 255)); break;
+    }
+}
+
+void damage_block(struct dice *d, uint8_t block[LOCKTABLE_BLOCK], unsigned records)
+{
+    unsigned what = roll(d, 4), a = draw_place(d, records), b = draw_place(d, records);
+    uint8_t kept = block[a];
+    if (what == 0) {
+        block[a] = block[b];
+        block[b] = kept;
+    } else {
+        change_byte(d, &block[a]);
+        if (what == 1)
+            change_byte(d, &block[b]);
+    }
+    if (chance(d, 50))
+        mend_check(block);
+}

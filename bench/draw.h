@@ -1,4 +1,4 @@
-/* Records and tables by chance, the same for the same seed on every machine. */
+/* Records, tables and blocks of the log by chance, the same for the same seed on every machine. */
 #ifndef BENCH_DRAW_H
 #define BENCH_DRAW_H
 #include <stdint.h>
@@ -31,5 +31,16 @@ enum { LAST_THREAD = LOCKTABLE_THREADS - 1, LAST_RESOURCE = LOCKTABLE_RESOURCES 
 struct chain { uint8_t thread[LOCKTABLE_THREADS], resource[LOCKTABLE_RESOURCES]; };
 void make_chain(struct dice *d, unsigned length, unsigned waiting_percent, unsigned gap, struct locktable *t, struct chain *c);
 void fill_with_noise(struct dice *d, struct locktable *t);
+
+/* Four bytes of any kind: the log does not judge them. */
+struct locktable_record draw_any_record(struct dice *d);
+/* How many records a log has so far, below 65,535: one of the first blocks, of the last or of all, and any place in it, often the first. */
+uint32_t draw_so_far(struct dice *d);
+/* Of a log with so_far records the block that takes the next one, as the model leaves it. Where the record would start it, nothing. */
+void make_block(struct dice *d, uint8_t *log, uint32_t so_far);
+/* Changes one or two bytes of a block with so many records, 1 to 124, or exchanges two. Every second time the check is made to agree again, so that
+   it does not give the change away. */
+void damage_block(struct dice *d, uint8_t block[LOCKTABLE_BLOCK], unsigned records);
+void draw_bytes(struct dice *d, uint8_t *bytes, size_t n);
 
 #endif

@@ -23,6 +23,16 @@ WORKLOADS = {
     'worst_ours_32': 'the worst table found for ours',
     'worst_fast_32': 'the worst table found for `fast.c`',
 }
+# Of the log: what the block has before the call, and what comes of it.
+LOGS = {
+    'log_fresh': 'a record that starts a block',
+    'log_1': 'behind 1 record',
+    'log_62': 'behind 62 records',
+    'log_124': 'behind 124 records',
+    'log_goes_on': 'behind 1 to 124 records, the mean',
+    'log_block': 'all 125 records of a block, the mean',
+    'log_refused': 'refused with 14: one byte of 62 records changed',
+}
 # What was found by the search, one event each.
 FOUND = ['worst_ours_32', 'worst_fast_32']
 KINDS = {
@@ -31,14 +41,14 @@ KINDS = {
 }
 EVENTS, P, V = ['', 'Create', 'Exit', 'Set', 'P', 'V'], 4, 5
 RESOURCES, MARKS = 16, 64  # MARKS as in crates/slots/src/times.rt
-CALLS = ['step', 'running', 'thread', 'resource', 'empty']
+CALLS = ['step', 'running', 'thread', 'resource', 'empty', 'log']
 # How the names of each version's calls begin, and the head of its column.
 VERSIONS = {'locktable': 'ours', 'fast': 'fast.c', 'best': 'best.c', 'nosse': 'fast.c without SSE'}
-# The test whether a table is sound, a function of its own in each version, in the same order; every call but `empty` makes it once.
+# The test whether a table is sound, a function of its own in each version, in the same order; every call on a table but `empty` makes it once.
 TESTS = ['soundness::check::check', 'fast_look', 'best_look', 'nosse_look']
 # A plain C version, measured the same way: what is known of it.
 PLAIN = {('small', 'mean'): 4000, ('contended', 'mean'): 4400, ('chain_of_16', 'worst'): 8500}
-MOST_TO_C, MOST_AT_32, MOST_STACK = 1.4, 12000, 5120
+MOST_TO_C, MOST_AT_32, MOST_STACK, MOST_STACK_TO_C = 1.4, 12000, 5120, 256
 
 
 def read_counts(path):
@@ -49,8 +59,14 @@ def read_counts(path):
         if w[0] == 'function' and int(w[3]) > 0:
             jump = 1 if w[1].partition('_')[2] in KINDS else 0
             found[w[1]] = {'times': int(w[3]), 'mean': float(w[7]) - jump, 'worst': int(w[11]) - jump, 'stack': int(w[15])}
-    if any(test not in found or found[test]['times'] != found[TESTS[0]]['times'] for test in TESTS):
-        sys.exit(f'figures.py: {path}: {", ".join(TESTS)} were not called equally often; is one inlined, or renamed?')
+    return found
+
+
+def read_history(path, functions):
+    """The counts of one run, in which these functions, one of each version, have to be called, and equally often."""
+    found = read_counts(path)
+    if any(function not in found or found[function]['times'] != found[functions[0]]['times'] for function in functions):
+        sys.exit(f'figures.py: {path}: {", ".join(functions)} were not called equally often; is one inlined, or renamed?')
     return found
 
 
@@ -134,12 +150,22 @@ def stack_table(touched, depths):
     return table(['', 'touched', 'fast.c', 'best.c', 'frames', 'fast.c', 'best.c'], rows)
 
 
+def log_table(counts):
+    """The mean of each row's calls, and as the last row the dearest call of all."""
+    rows, functions = [], [f'{version}_log' for version in VERSIONS]
+    for name, words in LOGS.items():
+        rows.append([words] + [counts[name][function]['mean'] for function in functions])
+    rows.append(['the dearest of these'] + [max(counts[name][function]['worst'] for name in LOGS) for function in functions])
+    cells = [[r[0]] + [number(x) for x in r[1:]] + [times(r[1], x) for x in r[2:4]] for r in rows]
+    return table([''] + list(VERSIONS.values()) + ['ours / fast.c', 'ours / best.c'], cells)
+
+
 def goal_row(words, figure, limit, why):
     met = 'met' if figure <= limit else f'**no, {figure / limit:.2f} times the goal**'
     return [words, number(figure), number(limit), why, met]
 
 
-def goals(counts, touched):
+def step_goals(counts, touched):
     """Each goal: what it is of, our figure, the most it should be, where that comes from, and whether it is met."""
     rows = []
     for (name, what), plain in PLAIN.items():
@@ -152,12 +178,28 @@ def goals(counts, touched):
     return rows
 
 
-def verdict(counts, rows):
-    unmet = sum(1 for r in rows if r[-1] != 'met')
-    if unmet == 0:
+def log_goals(counts, touched):
+    rows = []
+    for name in ('log_fresh', 'log_goes_on'):
+        ours, fast = (counts[name][function]['mean'] for function in ('locktable_log', 'fast_log'))
+        rows.append(goal_row(f'the log, {LOGS[name]}', ours, MOST_TO_C * fast, f'{MOST_TO_C} times {number(fast)}, `fast.c`'))
+    most = touched['fast_log'] + MOST_STACK_TO_C
+    rows.append(goal_row('stack of the log, bytes', touched['locktable_log'], most, f"{MOST_STACK_TO_C} more than `fast.c`"))
+    return rows
+
+
+def unmet(rows):
+    return sum(1 for r in rows if r[-1] != 'met')
+
+
+def verdict(counts, of_step, of_log):
+    if unmet(of_step + of_log) == 0:
         return 'All are met.'
-    words = [f"""**{unmet} of {len(rows)} are not met.** The step is a function from a table to a table, as it is proved, and the thin call stores its result, so the
-table is copied in and out, which C that changes bytes in place does not do. `docs/DECISIONS.md` says what was tried."""]
+    words = [f'**{unmet(of_step + of_log)} of {len(of_step + of_log)} are not met.** `docs/DECISIONS.md` says what was tried.']
+    if unmet(of_step) == 0:
+        return words[0]
+    words.append("""The step is a function from a table to a table, as it is proved, and the thin call stores its result, so the
+table is copied in and out, which C that changes bytes in place does not do.""")
     rising, falling = (counts[name][TESTS[0]]['worst'] for name in ('rising_32', 'falling_32'))
     if falling > 1.2 * rising:
         words.append(f"""The order of ids matters: on the same chain the soundness test takes {number(rising)} at worst with rising ids and
@@ -185,7 +227,8 @@ table in place: `fast.c` as one writes it for a kernel, and `best.c` with SSE2 b
 compiled as the library is (`bench/cc64`), by the kit's {compiler} with
 `-O3 -march=x86-64 -fPIC -ffunction-sections -fdata-sections`. "fast.c without SSE" is `fast.c` as kernels are
 compiled, by the same clang with `-mgeneral-regs-only -mno-red-zone` besides. All ran in the same process on the same
-events, and their tables were equal after each. Of the C library the C versions call memset alone, to empty a table.
+events, and their tables and logs were equal after each. Of the C library the C versions call memset alone, to empty a
+table, and in `fast.c` to start a block of the log.
 
 A plain C version that is not in this tree was measured at
 {plain},
@@ -232,6 +275,14 @@ The test, and what is asked for. Ours copies the table once before that, since t
 value. "/ fast.c" and "/ best.c" say how many times as much ours is.
 
 {queries}
+## The log
+
+What a record of the log costs besides the step that accepted it. One that starts a block writes the block fresh. For
+any other the block is tested first: used records are weighed, and unused ones only have to be zero, so the cost grows
+with the place in the block. It depends on nothing else, except that a refusal may come early: the one counted here
+comes last, since only the check tells that a byte has changed.
+
+{logs}
 ## The step by kind of event
 
 {kinds}## Stack
@@ -253,6 +304,7 @@ or by hand, after it has built the programs once:
     bench/count -s -f locktable_step -f nosse_step target/bench/cost live 32 3000
     bench/count -f soundness::check::check -f fast_look -f best_look target/bench/cost chain falling 64
     bench/count -f locktable_step -f fast_step target/bench/cost trial bench/worst/ours.table
+    bench/count -s -f locktable_log -f fast_log -f best_log target/bench/cost log 1 124
     bench/stack target/bench/cost
 
 The names of `fast.c` without SSE begin with `nosse_`. `bench/count` with `-f ours_p_taken -f fast_p_taken` and so on
@@ -340,12 +392,12 @@ def worst_found(counts):
 
 def page(counts, depths, version, compiler):
     touched = most_touched(counts)
-    rows = goals(counts, touched)
-    return PAGE.format(version=version, compiler=compiler, plain=beside_plain(counts), verdict=verdict(counts, rows),
-                       goals=table(['', 'ours', 'at most', 'which is', 'met'], rows),
+    of_step, of_log = step_goals(counts, touched), log_goals(counts, touched)
+    return PAGE.format(version=version, compiler=compiler, plain=beside_plain(counts), verdict=verdict(counts, of_step, of_log),
+                       goals=table(['', 'ours', 'at most', 'which is', 'met'], of_step + of_log),
                        step=history_tables(counts, [f'{name}_step' for name in VERSIONS]),
                        worst=worst_found(counts), sound=history_tables(counts, TESTS),
-                       queries=query_table(counts), kinds=kind_tables(counts) + '\n',
+                       queries=query_table(counts), logs=log_table(counts), kinds=kind_tables(counts) + '\n',
                        stack=stack_table(touched, depths), fast_frames=number(depths['fast_step']))
 
 
@@ -354,7 +406,8 @@ def read_line(path):
 
 
 def main(folder):
-    counts = {name: read_counts(f'{folder}/{name}.count') for name in WORKLOADS}
+    counts = {name: read_history(f'{folder}/{name}.count', TESTS) for name in WORKLOADS}
+    counts.update({name: read_history(f'{folder}/{name}.count', [f'{version}_log' for version in VERSIONS]) for name in LOGS})
     depths = read_depths(f'{folder}/frames')
     print(page(counts, depths, read_line(f'{folder}/version'), read_line(f'{folder}/compiler')), end='')
 

@@ -3,13 +3,14 @@
 #include "locktable.h"
 #include "locktable.h"
 
-#if LOCKTABLE_VERSION != 1
-#error "these answers are those of version 1"
+#if LOCKTABLE_VERSION != 2
+#error "these answers are those of version 2"
 #endif
 
 /* Through pointers, so that no compiler takes its own convention for the call: their types have LOCKTABLE_ABI, as the header says. */
 static void (LOCKTABLE_ABI *volatile empty)(struct locktable *) = locktable_empty;
 static struct locktable_answer (LOCKTABLE_ABI *volatile step)(struct locktable *, struct locktable_record) = locktable_step;
+static uint8_t (LOCKTABLE_ABI *volatile keep)(uint8_t *, size_t, uint32_t, struct locktable_record) = locktable_log;
 
 static int steps_right(struct locktable *t)
 {
@@ -38,9 +39,24 @@ static int queries_right(const struct locktable *t)
         && locktable_resource(t, LOCKTABLE_NOTHING).number == LOCKTABLE_MALFORMED;
 }
 
+/* Two records, and the check worked out by hand: 5 * 2 for the count, 9 * 1 + 10 * 3 + 11 * 200 for the one, 13 * 4 + 14 * 3 + 15 * 5 for
+   the other. */
+static int log_right(uint8_t *log, size_t size)
+{
+    struct locktable_record create = { LOCKTABLE_CREATE, 3, 200, 0 }, request = { LOCKTABLE_P, 3, 5, 0 };
+    uint8_t a = locktable_log(log, size, 0, create), b = keep(log, size, 1, request);
+    return a == LOCKTABLE_ACCEPTED && b == LOCKTABLE_ACCEPTED
+        && log[0] == 0 && log[4] == 2 && log[8] == LOCKTABLE_CREATE && log[9] == 3 && log[10] == 200 && log[12] == LOCKTABLE_P
+        && log[508] == 2418 % 256 && log[509] == 2418 / 256 && log[510] == 0
+        && keep(log, size, LOCKTABLE_EVENTS, create) == LOCKTABLE_CLOCK_RUN_OUT
+        && keep(log, size, LOCKTABLE_BLOCK_RECORDS, create) == LOCKTABLE_LOG_TOO_SHORT
+        && keep(log, size, 1, create) == LOCKTABLE_LOG_NOT_AS_SAID;
+}
+
 /* Whatever the convention that this file is compiled for, main is called by that of the machine it runs on. */
 LOCKTABLE_ABI int main(void)
 {
     struct locktable t;
-    return steps_right(&t) && queries_right(&t) ? 0 : 1;
+    uint8_t log[LOCKTABLE_BLOCK * LOCKTABLE_LOG_BLOCKS(2)];
+    return steps_right(&t) && queries_right(&t) && log_right(log, sizeof log) ? 0 : 1;
 }

@@ -9,9 +9,10 @@
     void SIDE##_empty(struct locktable *t);                                                                                \
     struct locktable_running_answer SIDE##_running(const struct locktable *t);                                             \
     struct locktable_thread_answer SIDE##_thread(const struct locktable *t, uint8_t thread);                               \
-    struct locktable_resource_answer SIDE##_resource(const struct locktable *t, uint8_t resource)
+    struct locktable_resource_answer SIDE##_resource(const struct locktable *t, uint8_t resource);                         \
+    uint8_t SIDE##_log(uint8_t *log, size_t size, uint32_t so_far, struct locktable_record e)
 
-DECLARE_CALLS(model); /* model.c: document 01 word by word, slow */
+DECLARE_CALLS(model); /* model.c: documents 01 and 02 word by word, slow */
 DECLARE_CALLS(fast);  /* fast.c: as one writes it for a kernel */
 DECLARE_CALLS(nosse); /* fast.c again, compiled as kernels are: without SSE and without the red zone */
 DECLARE_CALLS(best);  /* best.c: SSE2 by hand */
@@ -21,5 +22,12 @@ DECLARE_CALLS(best);  /* best.c: SSE2 by hand */
 void model_set_currents(struct locktable *t);
 /* Whether the table is sound. */
 bool model_sound(const struct locktable *t);
+
+/* What a block that takes a record, and does not start with it, has to be like; each a bit in a set of those that it breaks. */
+enum block_rule { NUMBER_RULE = 1, COUNT_RULE = 2, SPARE_RULE = 4, UNUSED_RULE = 8, CHECK_RULE = 16 };
+/* Which of them the block breaks that stands where the log's next record goes, after so_far of them. */
+unsigned model_broken_rules(const uint8_t *block, uint32_t so_far);
+/* The check that the block ought to have. */
+uint32_t model_check(const uint8_t *block);
 
 #endif

@@ -1,5 +1,6 @@
 /* What include/locktable.h says of the calls, beyond their answers, and can be tried by running them: which memory they write, how a table
-   comes to its end, and that tables are independent. What it says of the machine code is tried by bench/header. */
+   comes to its end, how a kernel keeps its log, and that tables and logs are independent. What it says of the machine code is tried by
+   bench/header. */
 #define _DEFAULT_SOURCE /* for mmap and setitimer beside C11 */
 #include <pthread.h>
 #include <signal.h>
@@ -16,6 +17,9 @@
 
 enum { HISTORIES = 300, TURNS = 5000, INTERRUPTS = 300, PATIENCE = 60 };
 
+/* In a block of the log. */
+enum { COUNT_AT = 4, RECORDS_AT = 8, RECORD = sizeof(struct locktable_record) };
+
 static void expect(bool holds, const char *sentence)
 {
     if (holds)
@@ -29,16 +33,31 @@ static uint8_t number_of(struct locktable *t, unsigned kind, unsigned thread, un
     return locktable_step(t, (struct locktable_record){ (uint8_t)kind, (uint8_t)thread, (uint8_t)argument, 0 }).number;
 }
 
-/* A copy of the table on a page that may only be read, or written too. It ends where the page does, and what follows may not be touched. */
+static size_t page_size(void) { return (size_t)sysconf(_SC_PAGESIZE); }
+
+/* Pages that are all zero and may be written. */
+static uint8_t *new_pages(size_t pages)
+{
+    uint8_t *at = mmap(0, pages * page_size(), PROT_READ | PROT_WRITE, MAP_PRIVATE | MAP_ANONYMOUS, -1, 0);
+    expect(at != MAP_FAILED, "pages can be had");
+    return at;
+}
+
+static void protect(uint8_t *page, int allowed) { expect(mprotect(page, page_size(), allowed) == 0, "pages can be protected"); }
+
+/* A copy of the bytes on a page that may only be read, or written too. It ends where the page does, and what follows may not be touched. */
+static uint8_t *copy_on_page(const void *bytes, size_t n, int allowed)
+{
+    uint8_t *page = new_pages(2);
+    memcpy(page + page_size() - n, bytes, n);
+    protect(page, allowed);
+    protect(page + page_size(), PROT_NONE);
+    return page + page_size() - n;
+}
+
 static struct locktable *on_page(const struct locktable *table, int allowed)
 {
-    size_t page = (size_t)sysconf(_SC_PAGESIZE);
-    uint8_t *at = mmap(0, 2 * page, PROT_READ | PROT_WRITE, MAP_PRIVATE | MAP_ANONYMOUS, -1, 0);
-    expect(at != MAP_FAILED, "two pages can be had");
-    struct locktable *t = (struct locktable *)(void *)(at + page - sizeof *t);
-    *t = *table;
-    expect(mprotect(at, page, allowed) == 0 && mprotect(at + page, page, PROT_NONE) == 0, "pages can be protected");
-    return t;
+    return (struct locktable *)(void *)copy_on_page(table, sizeof *table, allowed);
 }
 
 static void end_with(int signal) { _exit(signal); }
@@ -47,24 +66,39 @@ static void end_with(int signal) { _exit(signal); }
 static void on_fault(int signal)
 {
     (void)signal;
-    expect(false, "a query writes nothing, and no call touches a byte beyond the table");
+    expect(false, "a query and a refused call of the log write nothing, and no call touches a byte beyond what it is lent");
 }
 
-/* The signal that ends this step, or with no record this `empty`, in a process of its own; 0 if it goes through. */
-static int signal_of(struct locktable *t, const struct locktable_record *e)
+/* A process of its own, in which a fault is a signal to end with. */
+static pid_t new_child(void)
+{
+    pid_t child = fork();
+    expect(child >= 0, "a child can be started");
+    if (child == 0)
+        signal(SIGSEGV, end_with);
+    return child;
+}
+
+/* The signal that ended it; 0 if it went through. */
+static int signal_of_child(pid_t child)
 {
     int status = 0;
-    pid_t child = fork();
+    expect(waitpid(child, &status, 0) == child && WIFEXITED(status), "a child ends");
+    return WEXITSTATUS(status);
+}
+
+/* The signal that ends this step, or with no record this `empty`; 0 if it goes through. */
+static int signal_of(struct locktable *t, const struct locktable_record *e)
+{
+    pid_t child = new_child();
     if (child == 0) {
-        signal(SIGSEGV, end_with);
         if (e != 0)
             locktable_step(t, *e);
         else
             locktable_empty(t);
         _exit(0);
     }
-    expect(child > 0 && waitpid(child, &status, 0) == child && WIFEXITED(status), "a child can be started, and ends");
-    return WEXITSTATUS(status);
+    return signal_of_child(child);
 }
 
 /* Thread 0 holds resource 0. Thread 1 runs and holds resource 1. */
@@ -295,9 +329,179 @@ static void running_holds(void)
     printf("promises: after a P its thread runs exactly if it holds the resource: %d times it does, %d it waits\n", held, waited);
 }
 
+/* A record that differs from its neighbours. */
+static struct locktable_record record_number(uint32_t n)
+{
+    return (struct locktable_record){ (uint8_t)(1 + n % 5), (uint8_t)(n % 32), (uint8_t)(n / 7), (uint8_t)(n >> 8) };
+}
+
+/* The log of the first n such records, in a buffer that is large enough. */
+static void make_log(uint8_t *log, size_t size, uint32_t n)
+{
+    for (uint32_t i = 0; i < n; i++)
+        expect(locktable_log(log, size, i, record_number(i)) == LOCKTABLE_ACCEPTED, "a log takes one record after the other");
+}
+
+/* The call answers with this number on a page that may only be read, and changes nothing on one that may be written. */
+static void refused_and_read(const uint8_t *log, size_t size, size_t said, uint32_t so_far, uint8_t number)
+{
+    uint8_t *there = copy_on_page(log, size, PROT_READ | PROT_WRITE);
+    expect(locktable_log(there, said, so_far, record_number(so_far)) == number, "each refusal of the log has its number");
+    expect(memcmp(there, log, size) == 0, "a refused call of the log changes no byte");
+    there = copy_on_page(log, size, PROT_READ);
+    expect(locktable_log(there, said, so_far, record_number(so_far)) == number, "the log refuses on a page that may only be read");
+}
+
+static void refused_logs_only_read(void)
+{
+    enum { BEFORE = 62 };
+    uint8_t log[LOCKTABLE_BLOCK];
+    make_log(log, sizeof log, BEFORE);
+    refused_and_read(log, sizeof log, sizeof log, LOCKTABLE_EVENTS, LOCKTABLE_CLOCK_RUN_OUT);
+    refused_and_read(log, sizeof log, 0, UINT32_MAX, LOCKTABLE_CLOCK_RUN_OUT);
+    refused_and_read(log, sizeof log, sizeof log - 1, BEFORE, LOCKTABLE_LOG_TOO_SHORT);
+    refused_and_read(log, sizeof log, 0, 0, LOCKTABLE_LOG_TOO_SHORT);
+    refused_and_read(log, sizeof log, sizeof log, BEFORE + 1, LOCKTABLE_LOG_NOT_AS_SAID);
+    log[LOCKTABLE_BLOCK - 1] ^= 1;
+    refused_and_read(log, sizeof log, sizeof log, BEFORE, LOCKTABLE_LOG_NOT_AS_SAID);
+    pid_t child = new_child();
+    if (child == 0) {
+        locktable_log(copy_on_page(log, sizeof log, PROT_READ), sizeof log, 0, record_number(0));
+        _exit(0);
+    }
+    expect(signal_of_child(child) == SIGSEGV, "an accepted call of the log writes");
+    printf("promises: a refused call of the log answers on a page that may only be read\n");
+}
+
+/* Of three pages only the one in the midst may be touched, and the log goes through all blocks there. */
+static void logs_touch_one_block(void)
+{
+    uint8_t *log = new_pages(3), before[LOCKTABLE_BLOCK];
+    uint32_t blocks = (uint32_t)page_size() / LOCKTABLE_BLOCK, records = blocks * LOCKTABLE_BLOCK_RECORDS;
+    protect(log, PROT_NONE);
+    protect(log + 2 * page_size(), PROT_NONE);
+    for (uint32_t n = records; n < 2 * records; n++)
+        expect(locktable_log(log, 3 * page_size(), n, record_number(n)) == LOCKTABLE_ACCEPTED, "the log looks at no other block");
+    uint8_t *last = log + 2 * page_size() - LOCKTABLE_BLOCK;
+    memcpy(before, last, sizeof before);
+    for (uint32_t n = 2 * records - 2 * LOCKTABLE_BLOCK_RECORDS; n < 2 * records - LOCKTABLE_BLOCK_RECORDS; n++)
+        expect(locktable_log(log, 3 * page_size(), n, record_number(n)) == LOCKTABLE_ACCEPTED, "a block may be written once more");
+    expect(memcmp(before, last, sizeof before) == 0, "the log changes no other block");
+    printf("promises: the log touches the block that takes the record and no other page: %u records\n", records);
+}
+
+/* Whether the log has these n records, where the header says, and its blocks their numbers and counts. */
+static bool log_has(const uint8_t *log, const struct locktable_record *records, uint32_t n)
+{
+    for (uint32_t i = 0; i < n; i++) {
+        const uint8_t *block = log + LOCKTABLE_BLOCK * (i / LOCKTABLE_BLOCK_RECORDS);
+        uint32_t number = block[0] + 256u * block[1], left = n - number * LOCKTABLE_BLOCK_RECORDS;
+        if (number != i / LOCKTABLE_BLOCK_RECORDS || block[COUNT_AT] != (left < LOCKTABLE_BLOCK_RECORDS ? left : LOCKTABLE_BLOCK_RECORDS)
+            || memcmp(block + RECORDS_AT + RECORD * (i % LOCKTABLE_BLOCK_RECORDS), &records[i], RECORD) != 0)
+            return false;
+    }
+    return true;
+}
+
+/* The step, then the log if it is accepted, as the header has it: the log has the accepted records and no others. Each history begins anew
+   with locktable_empty, on a buffer that is not cleared. */
+static void logs_keep_what_is_accepted(void)
+{
+    enum { MOST = 600, SIZE = LOCKTABLE_BLOCK * LOCKTABLE_LOG_BLOCKS(MOST) };
+    static uint8_t log[SIZE], before[SIZE];
+    struct locktable_record accepted[MOST];
+    struct dice d = { 7 };
+    struct locktable table;
+    uint32_t most = 0;
+    draw_bytes(&d, log, sizeof log);
+    for (int i = 0; i < HISTORIES; i++) {
+        struct mood m = draw_mood(&d);
+        uint32_t n = 0;
+        locktable_empty(&table);
+        memcpy(before, log, sizeof log);
+        for (unsigned events = roll(&d, MOST); events > 0; events--) {
+            struct locktable_record e = draw_record(&d, &m, &table, locktable_running(&table).running);
+            if (locktable_step(&table, e).number != LOCKTABLE_ACCEPTED)
+                continue;
+            accepted[n++] = e;
+            expect(locktable_log(log, sizeof log, table.clock - 1u, e) == LOCKTABLE_ACCEPTED, "the log takes what the table has taken");
+        }
+        size_t end = (size_t)LOCKTABLE_BLOCK * LOCKTABLE_LOG_BLOCKS(n);
+        expect(n == table.clock && log_has(log, accepted, n), "the log has the accepted records");
+        expect(memcmp(log + end, before + end, sizeof log - end) == 0, "what stands behind the log is as it was");
+        most = n > most ? n : most;
+    }
+    printf("promises: the log has what was accepted, after %d histories of up to %u accepted events\n", HISTORIES, most);
+}
+
+/* A buffer of LOCKTABLE_LOG_SIZE bytes, and one that is a byte shorter. */
+static void logs_come_to_their_end(void)
+{
+    static uint8_t log[LOCKTABLE_LOG_SIZE], whole[LOCKTABLE_LOG_SIZE];
+    static struct locktable_record records[LOCKTABLE_EVENTS];
+    uint32_t n = 0;
+    for (uint32_t i = 0; i < LOCKTABLE_EVENTS; i++)
+        records[i] = record_number(i);
+    make_log(log, sizeof log, LOCKTABLE_EVENTS);
+    expect(log_has(log, records, LOCKTABLE_EVENTS), "a log of all events has them");
+    memcpy(whole, log, sizeof log);
+    expect(locktable_log(log, sizeof log, LOCKTABLE_EVENTS, records[0]) == LOCKTABLE_CLOCK_RUN_OUT, "no record comes behind the last one");
+    expect(memcmp(log, whole, sizeof log) == 0, "a log that has come to its end stays as it is");
+    while (locktable_log(log, sizeof log - 1, n, records[n]) == LOCKTABLE_ACCEPTED)
+        n++;
+    expect(n == (LOCKTABLE_LOG_SIZE / LOCKTABLE_BLOCK - 1) * LOCKTABLE_BLOCK_RECORDS, "the last block does not fit in a byte less");
+    printf("promises: a log of %d bytes takes %d records and no more, one that is a byte shorter %u\n", LOCKTABLE_LOG_SIZE, LOCKTABLE_EVENTS, n);
+}
+
+/* Where the buffer is too short the same call may be made on a larger one, which has the log so far. */
+static void logs_move(void)
+{
+    uint8_t log[LOCKTABLE_BLOCK], larger[2 * LOCKTABLE_BLOCK];
+    struct locktable_record records[LOCKTABLE_BLOCK_RECORDS + 1], *next = &records[LOCKTABLE_BLOCK_RECORDS];
+    for (uint32_t i = 0; i <= LOCKTABLE_BLOCK_RECORDS; i++)
+        records[i] = record_number(i);
+    make_log(log, sizeof log, LOCKTABLE_BLOCK_RECORDS);
+    expect(locktable_log(log, sizeof log, LOCKTABLE_BLOCK_RECORDS, *next) == LOCKTABLE_LOG_TOO_SHORT, "a full buffer is too short");
+    memcpy(larger, log, sizeof log);
+    expect(locktable_log(larger, sizeof larger, LOCKTABLE_BLOCK_RECORDS, *next) == LOCKTABLE_ACCEPTED
+           && log_has(larger, records, LOCKTABLE_BLOCK_RECORDS + 1), "a log goes on in a larger buffer");
+    printf("promises: a log whose buffer is too short goes on in a larger one\n");
+}
+
+/* What the check tells and what it does not; and a block that is refused stays so, but the next one begins. */
+static void changes_are_noticed(void)
+{
+    enum { BEFORE = 62 };
+    uint8_t log[2 * LOCKTABLE_BLOCK], kept[2 * LOCKTABLE_BLOCK];
+    unsigned changes = 0, exchanges = 0;
+    struct locktable_record e = record_number(BEFORE);
+    memset(log, 0, sizeof log);
+    make_log(log, sizeof log, BEFORE);
+    memcpy(kept, log, sizeof log);
+    for (unsigned i = 0; i < LOCKTABLE_BLOCK; i++) {
+        for (log[i]++; log[i] != kept[i]; log[i]++, changes++)
+            expect(locktable_log(log, sizeof log, BEFORE, e) == LOCKTABLE_LOG_NOT_AS_SAID, "one changed byte is noticed");
+        for (unsigned k = 0; k < i; k++) {
+            log[i] = kept[k], log[k] = kept[i];
+            if (kept[i] != kept[k] && ++exchanges)
+                expect(locktable_log(log, sizeof log, BEFORE, e) == LOCKTABLE_LOG_NOT_AS_SAID, "an exchange of two bytes is noticed");
+            log[i] = kept[i], log[k] = kept[k];
+        }
+    }
+    log[8]++;
+    for (uint32_t n = BEFORE; n < LOCKTABLE_BLOCK_RECORDS; n++)
+        expect(locktable_log(log, sizeof log, n, e) == LOCKTABLE_LOG_NOT_AS_SAID, "a block that was refused is refused again");
+    expect(locktable_log(log, sizeof log, LOCKTABLE_BLOCK_RECORDS, e) == LOCKTABLE_ACCEPTED, "the next block begins all the same");
+    log[8]++;
+    log[17]--;
+    expect(locktable_log(log, sizeof log, BEFORE, e) == LOCKTABLE_ACCEPTED, "2 more at byte 8 and 1 less at byte 17 are not noticed");
+    printf("promises: the log notices each of %u changes of a byte and of %u exchanges of two\n", changes, exchanges);
+}
+
 /* A history that goes on by itself: each event depends on its own table and dice alone. `heard` takes in all answers. */
 struct player {
     struct locktable table;
+    uint8_t log[LOCKTABLE_LOG_SIZE];
     struct dice dice;
     struct mood mood;
     uint64_t heard;
@@ -326,8 +530,9 @@ static void play(struct player *p)
     struct locktable_answer a = locktable_step(&p->table, e);
     struct locktable_thread_answer thread = locktable_thread(&p->table, e.thread);
     struct locktable_resource_answer resource = locktable_resource(&p->table, e.argument);
+    uint8_t logged = a.number != LOCKTABLE_ACCEPTED ? a.number : locktable_log(p->log, sizeof p->log, p->table.clock - 1u, e);
     in_a_call = 0;
-    uint64_t said[] = { a.number, a.running, a.count, thread.current_priority, thread.current_time, resource.holder };
+    uint64_t said[] = { a.number, a.running, a.count, thread.current_priority, thread.current_time, resource.holder, logged };
     for (size_t i = 0; i < sizeof said / sizeof *said; i++)
         p->heard = mix(p->heard ^ said[i]);
     p->played++;
@@ -339,7 +544,8 @@ static bool as_alone(const struct player *p, uint64_t seed)
     struct player alone = new_player(seed);
     while (alone.played < p->played)
         play(&alone);
-    return memcmp(&alone.table, &p->table, sizeof alone.table) == 0 && alone.heard == p->heard;
+    return memcmp(&alone.table, &p->table, sizeof alone.table) == 0 && memcmp(alone.log, p->log, sizeof alone.log) == 0
+        && alone.heard == p->heard;
 }
 
 static void tables_in_turn(void)
@@ -350,7 +556,7 @@ static void tables_in_turn(void)
         play(&other);
     }
     expect(as_alone(&one, 1) && as_alone(&other, 2), "two tables in turn do not know of each other");
-    printf("promises: two tables in turn, %d events each: as if alone\n", TURNS);
+    printf("promises: two tables and their logs in turn, %d events each: as if alone\n", TURNS);
 }
 
 static void *play_on(void *player)
@@ -368,7 +574,7 @@ static void tables_at_once(void)
     play_on(&one);
     expect(pthread_join(thread, 0) == 0, "a thread ends");
     expect(as_alone(&one, 5) && as_alone(&other, 6), "two tables may be used at once");
-    printf("promises: two tables at once, by two threads, %d events each: as if alone\n", TURNS);
+    printf("promises: two tables and their logs at once, by two threads, %d events each: as if alone\n", TURNS);
 }
 
 static struct player interrupter;
@@ -404,7 +610,7 @@ static void tables_in_interrupts(void)
     set_timer(0);
     expect(interrupted >= INTERRUPTS, "calls were interrupted often enough");
     expect(as_alone(&one, 3) && as_alone(&interrupter, 4), "a call on one table may be interrupted by calls on another");
-    printf("promises: another table in an interrupt, %d times in the midst of calls: as if alone\n", (int)interrupted);
+    printf("promises: another table and its log in an interrupt, %d times in the midst of calls: as if alone\n", (int)interrupted);
 }
 
 int main(void)
@@ -417,6 +623,12 @@ int main(void)
     tables_drain();
     tables_begin_anew();
     running_holds();
+    refused_logs_only_read();
+    logs_touch_one_block();
+    logs_keep_what_is_accepted();
+    logs_come_to_their_end();
+    logs_move();
+    changes_are_noticed();
     tables_in_turn();
     tables_at_once();
     tables_in_interrupts();

@@ -1,7 +1,7 @@
 /* A toy kernel around the lock table: three tasks, one lock, and the table's answer decides who runs.
    The journal task is slow and takes the lock first. Then the urgent draw task wants it and must wait. The label task is of middling
    urgency and needs no lock: without inheritance it would run ahead of journal, and so of draw. Here journal runs at draw's urgency.
-   `bench/run --example` builds and runs it. */
+   Each accepted event goes to a log. `bench/run --example` builds and runs it. */
 #include <stdio.h>
 #include "locktable.h"
 
@@ -28,12 +28,26 @@ static struct task tasks[TASKS] = {
 static struct locktable table;
 static uint8_t running = LOCKTABLE_NOBODY;
 
+/* The log of its events, with room for more of them than the scripts have. */
+enum { MOST_EVENTS = 100 };
+static uint8_t event_log[LOCKTABLE_BLOCK * LOCKTABLE_LOG_BLOCKS(MOST_EVENTS)];
+
 static const char *name(uint8_t id) { return id < TASKS ? tasks[id].name : "nobody"; }
+
+/* The table has taken the event, so its clock has gone on by one since the records that the log has so far. */
+static int keep(struct locktable_record e)
+{
+    uint8_t number = locktable_log(event_log, sizeof event_log, table.clock - 1u, e);
+    if (number != LOCKTABLE_ACCEPTED)
+        printf("the log refuses event %u with %u\n", table.clock, number);
+    return number == LOCKTABLE_ACCEPTED;
+}
 
 /* Every event goes through here: the answer's running thread is the one that gets the processor. */
 static int event(uint8_t kind, uint8_t id, uint8_t argument, const char *words)
 {
-    struct locktable_answer a = locktable_step(&table, (struct locktable_record){ kind, id, argument, 0 });
+    struct locktable_record e = { kind, id, argument, 0 };
+    struct locktable_answer a = locktable_step(&table, e);
     running = a.running;
     printf("%-8s %-22s", name(id), words);
     if (a.number != LOCKTABLE_ACCEPTED)
@@ -42,7 +56,7 @@ static int event(uint8_t kind, uint8_t id, uint8_t argument, const char *words)
     if (running != LOCKTABLE_NOBODY)
         printf(" at priority %u", locktable_thread(&table, running).current_priority);
     printf("\n");
-    return a.number == LOCKTABLE_ACCEPTED;
+    return a.number == LOCKTABLE_ACCEPTED && keep(e);
 }
 
 static int arrivals(unsigned turn)
@@ -88,5 +102,7 @@ int main(void)
         draw_ended |= id == DRAW && locktable_thread(&table, DRAW).number == LOCKTABLE_NOT_LIVE;
     }
     printf(label_ahead ? "label ran ahead of draw\n" : "label never ran ahead of draw\n");
+    int blocks = LOCKTABLE_LOG_BLOCKS(table.clock);
+    printf("the log has %d block%s with %u records\n", blocks, blocks == 1 ? "" : "s", table.clock);
     return well && !label_ahead && fflush(stdout) == 0 ? 0 : 1;
 }

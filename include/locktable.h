@@ -6,8 +6,8 @@
  * as urgent as everybody who is blocked behind it.
  *
  * You keep the table, a `struct locktable` of 754 bytes, and lend it to each call. Begin with
- * locktable_empty; then call locktable_step for each event. Three queries read the table. examples/kernel.c
- * is a toy kernel.
+ * locktable_empty; then call locktable_step for each event. Three queries read the table. locktable_log
+ * writes an accepted event to a log, in a buffer that is yours too. examples/kernel.c is a toy kernel.
  *
  * For C11 or C++11 and later, on x86-64; link liblocktable.a (README.md, "From C").
  *
@@ -16,6 +16,9 @@
  *     does not matter: a table that isn't sound is refused. locktable_empty and locktable_step need it
  *     writable, also where the step is refused: then too it stores all the bytes back, as they were. The
  *     queries only read the table, so for them it may lie in read-only memory.
+ *   - The log: `size` bytes at `log`, at any address, writable, that nobody else touches during the call.
+ *     What they hold does not matter. `log` must not be a null pointer, not even where `size` is 0. A call
+ *     that is refused only reads.
  *   - memcpy and memset. The archive refers to nothing else outside it.
  *   - The stack aligned to 16 bytes, as the ABI of x86-64 has it, since the library stores there by aligned
  *     SSE instructions: a kernel that is compiled for a boundary of 8 (-mpreferred-stack-boundary=3) would
@@ -35,29 +38,32 @@
  *
  * WHAT IT PROMISES
  *   - Each call comes to an end. It doesn't allocate, doesn't wait and doesn't keep the pointer.
- *   - The table is the only state: the archive has no data that is written. So tables are independent, and
- *     calls on different ones may be in progress at once, on two processors or in an interrupt that comes
- *     during a call. (What is said above of the xmm registers and the red zone holds for that interrupt too.)
+ *   - What is lent, table or log, is the only state: the archive has no data that is written. So tables
+ *     and logs are independent, and calls on different ones may be in progress at once, on two processors
+ *     or in an interrupt that comes during a call. (What is said above of the xmm registers and the red
+ *     zone holds for that interrupt too.)
  *   - A step takes some 2,000 to 3,000 instructions on tables as they come up, and fewer than 7,000 on the
- *     worst that was found. A query takes fewer than a step on the same table. bench/FIGURES.md has the
- *     figures. They are measured, and the worst is looked for, not proved.
- *   - What the calls do and answer, as this file says it, is proved for every table and every argument: in
- *     crates/locktable/src/lib.rt that a call does to the lent table what the function does that has it by
- *     value; in crates/locks/src/step.rt and crates/queries/src/lib.rt what that function answers and makes
- *     of the table, in the terms that the specs of crates locks, queries, events, refusals and table define;
- *     in crates/demands that this is the paper's protocol, and what every call leaves on any table
- *     (specs/Fixed.antt): that an accepted event leaves a sound table, and that a count is at most 16, are
- *     there too.
- *   - Not proved are what a call needs, its time, that there is no other state, how long a drain takes and
- *     the layout (the last two are below). bench/run tries them. */
+ *     worst that was found. A query takes fewer than a step on the same table, a record of the log fewer
+ *     than 2,000. bench/FIGURES.md has the figures. They are measured, and the worst is looked for, not
+ *     proved.
+ *   - What the calls do and answer, as this file says it, is proved for every table, every buffer and
+ *     every argument: in crates/locktable/src/lib.rt that a call does to what it is lent what the function
+ *     does that it calls; in crates/locks/src/step.rt and crates/queries/src/lib.rt what that function
+ *     answers and makes of the table, in the terms that the specs of crates locks, queries, events,
+ *     refusals and table define; in crates/log/src/lib.rt what it answers and makes of the log, in the
+ *     terms that the specs of that crate define (Block, Card and Keep); in crates/demands that this is the
+ *     paper's protocol, and what every call leaves on any table (specs/Fixed.antt): that an accepted event
+ *     leaves a sound table, and that a count is at most 16, are there too.
+ *   - Not proved are what a call needs, its time, which memory it touches, that there is no other state,
+ *     how long a drain takes and the layout (the last two are below). bench/run tries them. */
 #ifndef LOCKTABLE_H
 #define LOCKTABLE_H
 
-/* Raised by one whenever something changes that a program could notice: a layout, a kind of event, a number
- * in an answer, what a call takes, does or answers, or which calls there are. Other words and faster code
- * leave it as it is. Version 1 has five kinds of event and five calls. The archive has no such number in it:
- * take both from the same tree. */
-#define LOCKTABLE_VERSION 1
+/* Raised by one whenever something changes that a program could notice: a layout, a kind of event, a
+ * number in an answer, what a call takes, does or answers, or which calls there are. Other words and
+ * faster code leave it as it is. Version 2 has five kinds of event and six calls (version 1 had no log).
+ * The archive has no such number in it: take both from the same tree. */
+#define LOCKTABLE_VERSION 2
 
 /* The calls go by the System V convention of x86-64, whatever the compiler's own one is: UEFI and Windows
  * have another, and so has -mabi=ms. A pointer to a call needs the same word in its type. A compiler that has
@@ -164,7 +170,8 @@ enum locktable_number {
     /* P, V or a query of a resource above 15; Exit with an argument that isn't 0;
      * a fourth byte that isn't 0 */
     LOCKTABLE_MALFORMED = 4,
-    LOCKTABLE_CLOCK_RUN_OUT = 5,  /* the table has accepted all its 65,535 events */
+    /* the table has accepted all its 65,535 events; or a log is said to have so many records, or more */
+    LOCKTABLE_CLOCK_RUN_OUT = 5,
     LOCKTABLE_ALREADY_LIVE = 6,   /* Create of a live thread */
     LOCKTABLE_NOT_LIVE = 7,       /* any other event, or a query, of a thread that isn't live */
     LOCKTABLE_NOT_RUNNING = 8,    /* any event but Create of a live thread that isn't the running one */
@@ -172,7 +179,10 @@ enum locktable_number {
      * for the thread that asks */
     LOCKTABLE_CIRCLE = 9,
     LOCKTABLE_NOT_HOLDER = 10,    /* V by a thread that isn't the holder */
-    LOCKTABLE_STILL_HOLDS = 11    /* Exit by a thread that holds any resource */
+    LOCKTABLE_STILL_HOLDS = 11,   /* Exit by a thread that holds any resource */
+    /* of the log alone, see there: the buffer ends before the block does that takes the record */
+    LOCKTABLE_LOG_TOO_SHORT = 13,
+    LOCKTABLE_LOG_NOT_AS_SAID = 14 /* that block is not as the records before have left it */
 };
 
 /* THE END OF A TABLE
@@ -253,6 +263,63 @@ LOCKTABLE_ABI struct locktable_thread_answer locktable_thread(const struct lockt
 LOCKTABLE_ABI struct locktable_resource_answer locktable_resource(const struct locktable *t,
                                                                   uint8_t resource);
 
+/* THE LOG
+ *
+ * The events that a table has accepted, in a buffer of yours: blocks of 512 bytes, block 0 from the
+ * buffer's first byte on, then block 1 and so on. Numbers stand low byte first. A block is:
+ *   bytes 0 to 3      its number
+ *   bytes 4 and 5     how many records it has, 1 to 125
+ *   bytes 6 and 7     spare: 0
+ *   bytes 8 to 507    125 records, each the four bytes of a struct locktable_record, the unused ones 0
+ *   bytes 508 to 511  the check: the sum over bytes 0 to 507 of (place plus 1) times the byte
+ *
+ * After n records, block n / 125 takes the next one, at place n % 125 of its records, both counted from 0;
+ * the blocks before it are full. So of a larger buffer the first n / 125 blocks, rounded up, are the log
+ * of n records: LOCKTABLE_LOG_BLOCKS(n), for an n of at most 65,535. What stands behind them is not part
+ * of it. The log of all that a table accepts has 525 blocks, which are LOCKTABLE_LOG_SIZE bytes. */
+#define LOCKTABLE_BLOCK 512         /* bytes of a block */
+#define LOCKTABLE_BLOCK_RECORDS 125 /* records that it has room for */
+#define LOCKTABLE_LOG_BLOCKS(n) (((n) + (LOCKTABLE_BLOCK_RECORDS - 1)) / LOCKTABLE_BLOCK_RECORDS)
+#define LOCKTABLE_LOG_SIZE 268800
+
+/* One record more, behind the so_far that the log has. Accepted: the block that takes the record is
+ * written where it stands in the buffer, and all other bytes are as they were. A record that starts a
+ * block (so_far is a multiple of 125) writes it fresh, whatever stood there: so the buffer need not be
+ * cleared first. For any other the block must be there as the records before have left it.
+ *
+ * The answer is an enum locktable_number. Refused, with the first of these that applies, and no byte is
+ * written:
+ *   - LOCKTABLE_CLOCK_RUN_OUT: so_far is 65,535 or more.
+ *   - LOCKTABLE_LOG_TOO_SHORT: the buffer ends before that block does.
+ *   - LOCKTABLE_LOG_NOT_AS_SAID: the record doesn't start the block, and the block there has another
+ *     number than so_far / 125, or not exactly so_far % 125 records, or something else than 0 in its spare
+ *     bytes or unused records, or a check that doesn't agree.
+ *
+ * The call knows of no table and doesn't judge the record: it takes any four bytes. So it is up to the
+ * kernel to log what was accepted, once each and in order. It makes the step first. If that is accepted it
+ * logs the same record, and so_far is the table's clock before the event, which is 1 less than after it:
+ *
+ *     struct locktable_answer a = locktable_step(&table, e);
+ *     if (a.number == LOCKTABLE_ACCEPTED)
+ *         logged = locktable_log(log, sizeof log, table.clock - 1u, e);
+ *
+ * A refused event is not logged. A log belongs to one shipment, from one locktable_empty to the next: then
+ * it begins anew with so_far 0, so whoever still needs the old one copies it before, or lends another
+ * buffer from then on.
+ *
+ * If the log refuses, the table has taken the event all the same, and the log lacks it. Too short: the log
+ * is whole up to the event before, and the same call may be made again on a larger buffer to which the log
+ * was copied. Not as said: somebody wrote to the block, or so_far is wrong, as where the clock was read
+ * after the event and nothing taken off. A kernel that cannot mend it should log no more in this shipment,
+ * and say so: later records of that block are refused too, as a rule, but the first one of the next block
+ * is not, since the call looks at no other block. The log would then have a gap.
+ *
+ * What the check is good for: if any one byte of a good block is changed, or if two bytes of it that
+ * differ are exchanged, the block is good no more (proved). What it is not good for: several changes can
+ * make up for each other, such as 2 more at byte 8 and 1 less at byte 17, and whoever knows the rule can
+ * write any block. It is no signature. And this call does not look again at a block that is full. */
+LOCKTABLE_ABI uint8_t locktable_log(uint8_t *log, size_t size, uint32_t so_far, struct locktable_record e);
+
 /* THE LAYOUT
  *
  * The archive was compiled for this one. (_Static_assert is C's own name: <assert.h> need not be there in a
@@ -292,6 +359,10 @@ LOCKTABLE_AT(locktable_thread_answer, waits_for, 8);
 LOCKTABLE_SIZE(locktable_resource_answer, 3);
 LOCKTABLE_AT(locktable_resource_answer, holder, 1);
 LOCKTABLE_AT(locktable_resource_answer, waiters, 2);
+LOCKTABLE_SURE(LOCKTABLE_BLOCK == 8 + LOCKTABLE_BLOCK_RECORDS * sizeof(struct locktable_record) + 4,
+               "a block of the log is its head, its records and its check");
+LOCKTABLE_SURE(LOCKTABLE_LOG_BLOCKS(LOCKTABLE_EVENTS) == 525, "blocks of the log of all events");
+LOCKTABLE_SURE(LOCKTABLE_LOG_SIZE == 525 * LOCKTABLE_BLOCK, "bytes of the log of all events");
 #undef LOCKTABLE_SIZE
 #undef LOCKTABLE_AT
 #undef LOCKTABLE_SURE
