@@ -315,9 +315,10 @@ LOCKTABLE_ABI struct locktable_resource_answer locktable_resource(const struct l
  * is not, since the call looks at no other block. The log would then have a gap.
  *
  * What the check is good for: if any one byte of a good block is changed, or if two bytes of it that
- * differ are exchanged, the block is good no more (proved). What it is not good for: several changes can
- * make up for each other, such as 2 more at byte 8 and 1 less at byte 17, and whoever knows the rule can
- * write any block. It is no signature. And this call does not look again at a block that is full. */
+ * differ are exchanged, the block is good no more (proved, crates/log/proofs/Promise.antt). What it is not
+ * good for: several changes can make up for each other, such as 2 more at byte 8 and 1 less at byte 17,
+ * and whoever knows the rule can write any block. It is no signature. And this call does not look again at
+ * a block that is full. */
 LOCKTABLE_ABI uint8_t locktable_log(uint8_t *log, size_t size, uint32_t so_far, struct locktable_record e);
 
 /* THE LAYOUT
