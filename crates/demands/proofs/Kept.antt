@@ -42,10 +42,10 @@ four-bytes e any = record { size = refl; bytes = go }
 
 -- the records with an event that is accepted, and with one that is refused
 more-records : (c : Calls) (t : Table) (ks : List Call) (e : Record) → number-of c t ks e ≡ 0 → records c t (event e ∷ ks) ≡ records c t ks ++ (four-of e ∷ [])
-more-records c t ks e z = rw (eq-eqb (number-of c t ks e) 0 z)
+more-records c t ks e z = rw (eq-eqb (number-of c t ks e) 0 z) refl
 
 same-records : (c : Calls) (t : Table) (ks : List Call) (e : Record) → number-of c t ks e ≢ 0 → records c t (event e ∷ ks) ≡ records c t ks
-same-records c t ks e n = rw (ne-eqb (number-of c t ks e) 0 n)
+same-records c t ks e n = rw (ne-eqb (number-of c t ks e) 0 n) refl
 
 -- they are as many as the accepted events of the paper
 many : {c : Calls} {t : Table} {ks : List Call} {s : State} → History c t ks s → length (records c t ks) ≡ length s
