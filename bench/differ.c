@@ -1,7 +1,8 @@
 /* The differential test: the library, fast.c, best.c and the model get the same tables, logs and records by chance. After every call the
    answers and all bytes of the tables and logs must be equal.
      differ [--seed N] [--tests N] [--only N]       tests 1 to N of a seed (6,000 of a fresh one), or only test N
-     differ --drill model|fast|best|library FILE..  the listing of each file of records, by one side */
+     differ --drill model|fast|best|library FILE..  the listing of each file of records, by one side
+     differ --keep model|fast|best|library FILE..   the log of the accepted ones of each, by one side */
 #include <errno.h>
 #include <stdio.h>
 #include <stdlib.h>
@@ -544,13 +545,37 @@ static int drill(const struct side *s, const char *path)
     return 0;
 }
 
-static int drills(const char *name, char **paths)
+/* What logkeep writes for one file, by one side. */
+static int keep(const struct side *s, const char *path)
+{
+    static uint8_t log[LOCKTABLE_LOG_SIZE];
+    FILE *f = fopen(path, "rb");
+    struct locktable t;
+    uint8_t b[4];
+    if (f == 0) {
+        perror(path);
+        return 2;
+    }
+    s->empty(&t);
+    while (fread(b, 1, 4, f) == 4) {
+        struct locktable_record e = { b[0], b[1], b[2], b[3] };
+        if (s->step(&t, e).number == LOCKTABLE_ACCEPTED && s->log(log, sizeof log, t.clock - 1u, e) != LOCKTABLE_ACCEPTED) {
+            fprintf(stderr, "differ: the log of %s is refused\n", path);
+            return 1;
+        }
+    }
+    fclose(f);
+    fwrite(log, LOCKTABLE_BLOCK, (size_t)LOCKTABLE_LOG_BLOCKS(t.clock), stdout);
+    return 0;
+}
+
+static int each(int (*does)(const struct side *, const char *), const char *name, char **paths)
 {
     for (int i = 0; i < SIDES; i++)
         if (strcmp(sides[i].name, name) == 0) {
             int status = 0;
             for (; status == 0 && *paths != 0; paths++)
-                status = drill(&sides[i], *paths);
+                status = does(&sides[i], *paths);
             return status;
         }
     fprintf(stderr, "differ: no side %s\n", name);
@@ -574,7 +599,7 @@ static unsigned long long number(char **words)
 
 static int usage(FILE *to, int status)
 {
-    fprintf(to, "differ [--seed N] [--tests N] [--only N]\ndiffer --drill model|fast|best|library FILE..\n");
+    fprintf(to, "differ [--seed N] [--tests N] [--only N]\ndiffer --drill|--keep model|fast|best|library FILE..\n");
     return status;
 }
 
@@ -583,8 +608,8 @@ int main(int argc, char **argv)
     unsigned long long from = 1, to = 6000;
     run.seed = (unsigned long long)time(0);
     for (int i = 1; i < argc; i++) {
-        if (strcmp(argv[i], "--drill") == 0)
-            return i + 1 < argc ? drills(argv[i + 1], argv + i + 2) : usage(stderr, 2);
+        if (strcmp(argv[i], "--drill") == 0 || strcmp(argv[i], "--keep") == 0)
+            return i + 1 < argc ? each(argv[i][2] == 'd' ? drill : keep, argv[i + 1], argv + i + 2) : usage(stderr, 2);
         if (strcmp(argv[i], "--seed") == 0)
             run.seed = number(argv + i++);
         else if (strcmp(argv[i], "--tests") == 0)
