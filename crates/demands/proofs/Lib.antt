@@ -25,6 +25,7 @@ pub mod Types
 -- How much the statements say.
 pub mod Unique
 pub mod Wrong
+pub mod KeptUsed
 pub mod OneTable
 pub mod OneNumber
 pub mod AnyTable

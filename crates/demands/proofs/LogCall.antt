@@ -39,13 +39,13 @@ log-demand-1 k is log n e bytes low any = go (is log n e bytes low any)
     go (kept _ _ _) = inl refl
 
 -- What the contract rules out, at 512 bytes of 255 and document 01's first event: there one result is left.
-abbrev noise : List ℕ
+abbrev pub noise : List ℕ
 noise = replicate 512 255
 
 abbrev first : Record
 first = record { kind = 1; thread = 1; argument = 10; zero = 0 }
 
-noise-bytes : Bytes noise
+pub noise-bytes : Bytes noise
 noise-bytes i = by-cases (decLt i 512) (λ h. rw (getD-replicate {A = ℕ} 512 i 255 0 h) (omega arith)) (λ n. rw (List·getD-eq-default noise 0 {n = i} (omega arith)) (omega arith))
 
 the-one : (k : Log-call) → Log-stated k → k noise 0 first ≡ record { number = 0; log = log-of (four-of first ∷ []) }

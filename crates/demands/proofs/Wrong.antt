@@ -70,17 +70,17 @@ Counts-always c n = (t : Table) (e : Record) → Any-table t → Any-record e �
 
 -- How each fails. The empty table is one, the first Create of x is well-formed, and the rules admit it.
 
-memory : Any-table empty
+pub memory : Any-table empty
 memory = right-any empty (start-reached .right)
 
-creates : ℕ → Record
+pub creates : ℕ → Record
 creates x = record { kind = 1; thread = x; argument = 0; zero = 0 }
 
 well : (x : ℕ) → x < 32 → Well-formed (creates x)
 unfolding creates lowest by-record malformed
 well x low = well-formed (creates x) .0 (rw (le-ltb 31 x (omega arith)))
 
-any : (x : ℕ) → x < 32 → Any-record (creates x)
+pub any : (x : ℕ) → x < 32 → Any-record (creates x)
 unfolding creates
 any x low = record { kind = omega arith; thread = omega arith; argument = omega arith; zero = omega arith }
 
@@ -100,7 +100,7 @@ module _ (c : Calls) (d : Demand-2 c) where
 
   module _ (x : ℕ) (low : x < 32) where
     -- the first Create is accepted
-    first-accepted : number-of c empty [] (creates x) ≡ 0
+    pub first-accepted : number-of c empty [] (creates x) ≡ 0
     first-accepted = at-first .admits (creates x) (any x low) (well x low) (omega arith) .1 (Create x 0) (writes [] x) .1 (create-step (λ l. l))
 
     first-history : History c empty (event (creates x) ∷ []) (Create x 0 ∷ [])
