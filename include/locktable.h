@@ -301,7 +301,7 @@ LOCKTABLE_ABI struct locktable_resource_answer locktable_resource(const struct l
  *
  *     struct locktable_answer a = locktable_step(&table, e);
  *     if (a.number == LOCKTABLE_ACCEPTED)
- *         logged = locktable_log(log, sizeof log, table.clock - 1u, e);
+ *         logged = locktable_log(card, sizeof card, table.clock - 1u, e);
  *
  * A refused event is not logged. A log belongs to one shipment, from one locktable_empty to the next: then
  * it begins anew with so_far 0, so whoever still needs the old one copies it before, or lends another
