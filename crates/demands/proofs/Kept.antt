@@ -1,5 +1,5 @@
 -- Every accepted event is kept in the log. Assumes nothing.
-use Prim.Native.Nat.{ℕ, zero, suc, _+_, _*_, _≤_, _<_}
+use Prim.Native.Nat.{ℕ, _+_, _*_, _≤_, _<_}
 use mathlib.Core.Path.{_≡_, refl, sym, ap, subst, _∙_}
 use mathlib.Core.Bool.{Bool, true, false, cond}
 use mathlib.Core.Logic.{_≢_, _⊎_, inl, inr, ⊎-elim, by-cases}
@@ -12,33 +12,22 @@ use lib.ListN.{length, drop, length-append}
 use Rattle.protocol.specs.Events.{State}
 use Rattle.table.specs.declared.Table.{Table}
 use Rattle.refusals.specs.declared.Record.{Record}
-use Rattle.log.specs.Bytes.{Bytes, Four, Fours}
+use Rattle.log.specs.Bytes.{Bytes, Fours}
 use Rattle.log.specs.Card.{blocks-for, log-of}
 use Rattle.log.specs.Keep.{Keeps}
 use Rattle.log.proofs.Numbers.{bytes-append, bytes-drop}
-use Rattle.log.proofs.Groups.{fours-append}
+use Rattle.log.proofs.Groups.{four-bytes, fours-append}
 use Rattle.log.proofs.Places.{bytes-log}
 use Rattle.log.proofs.Written.{only-short}
 use Rattle.log.proofs.Fresh.{Kept-all, none, more, kept-all, all-same-size}
 use Rattle.locktable.specs.Four.{four-of}
-use Rattle.demands.specs.Memory.{Any-table, Any-record}
+use Rattle.demands.specs.Memory.{Any-table}
 use Rattle.demands.specs.Calls.{Calls}
 use Rattle.demands.specs.Runs.{Call, event, ask, Any-calls, table-after, number-of, History, none-yet, accepted, refused, asked}
 use Rattle.demands.specs.Demand2.{Demand-2}
 use Rattle.demands.specs.Kept.{Wrote, Log-call, Log-stated, records, log-after, Every-event-kept}
 use Rattle.demands.proofs.TheCalls.{the-calls, demand-2-met}
 use Rattle.demands.proofs.LogCall.{the-log, log-stated}
-
--- a record's bytes are four
-four-bytes : (e : Record) → Any-record e → Four (four-of e)
-four-bytes e any = record { size = refl; bytes = go }
-  where
-    go : Bytes (four-of e)
-    go zero = omega (arith, any .kind)
-    go (suc zero) = omega (arith, any .thread)
-    go (suc (suc zero)) = omega (arith, any .argument)
-    go (suc (suc (suc zero))) = omega (arith, any .zero)
-    go (suc (suc (suc (suc i)))) = omega arith
 
 -- the records with an event that is accepted, and with one that is refused
 more-records : (c : Calls) (t : Table) (ks : List Call) (e : Record) → number-of c t ks e ≡ 0 → records c t (event e ∷ ks) ≡ records c t ks ++ (four-of e ∷ [])
@@ -60,7 +49,7 @@ fours c t [] any = tt
 fours c t (event e ∷ ks) any = go (eqb (number-of c t ks e) 0) (fours c t ks (any .1))
   where
     go : (b : Bool) → Fours (records c t ks) → Fours (cond b (records c t ks ++ (four-of e ∷ [])) (records c t ks))
-    go true f = fours-append (records c t ks) (four-of e ∷ []) f (four-bytes e (any .0), tt)
+    go true f = fours-append (records c t ks) (four-of e ∷ []) f (four-bytes (e .kind) (e .thread) (e .argument) (e .zero) (omega (arith, any .0 .kind)) (omega (arith, any .0 .thread)) (omega (arith, any .0 .argument)) (omega (arith, any .0 .zero)), tt)
     go false f = f
 fours c t (ask q ∷ ks) any = fours c t ks (any .1)
 
