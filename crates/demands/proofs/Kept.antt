@@ -12,7 +12,7 @@ use lib.ListN.{length, drop, length-append}
 use Rattle.protocol.specs.Events.{State}
 use Rattle.table.specs.declared.Table.{Table}
 use Rattle.refusals.specs.declared.Record.{Record}
-use Rattle.log.specs.Bytes.{Bytes, Fours}
+use Rattle.log.specs.Bytes.{Fours}
 use Rattle.log.specs.Card.{blocks-for, log-of}
 use Rattle.log.specs.Keep.{Keeps}
 use Rattle.log.proofs.Numbers.{bytes-append, bytes-drop}
@@ -25,7 +25,7 @@ use Rattle.demands.specs.Memory.{Any-table}
 use Rattle.demands.specs.Calls.{Calls}
 use Rattle.demands.specs.Runs.{Call, event, ask, Any-calls, table-after, number-of, History, none-yet, accepted, refused, asked}
 use Rattle.demands.specs.Demand2.{Demand-2}
-use Rattle.demands.specs.Kept.{Wrote, Log-call, Log-stated, records, log-after, Every-event-kept}
+use Rattle.demands.specs.Kept.{Any-log, Wrote, Log-call, Log-stated, records, log-after, Every-event-kept}
 use Rattle.demands.proofs.TheCalls.{the-calls, demand-2-met}
 use Rattle.demands.proofs.LogCall.{the-log, log-stated}
 
@@ -57,7 +57,7 @@ module _ (c : Calls) (k : Log-call) (d₂ : Demand-2 c) (is : Log-stated k) wher
   counted : (t : Table) (ks : List Call) → Any-table t → Any-calls ks → table-after c t ks .clock ≡ length (records c t ks)
   counted t ks held any = let w = d₂ t held ks any .1 in w .shows .clock-is ∙ sym (many (w .history))
 
-  module _ (t : Table) (fresh : List ℕ) (held : Any-table t) (bytes : Bytes fresh) where
+  module _ (t : Table) (fresh : List ℕ) (held : Any-table t) (holds : Any-log fresh) where
     -- an event is accepted while there are fewer than 65,535
     early : (ks : List Call) (e : Record) → Any-calls (event e ∷ ks) → number-of c t ks e ≡ 0 → length (records c t ks) < 65535
     early ks e any z =
@@ -88,7 +88,10 @@ module _ (c : Calls) (k : Log-call) (d₂ : Demand-2 c) (is : Log-stated k) wher
       keeps : Keeps log (length rs) (four-of e) (wrote .number) (wrote .log)
       keeps =
           let clock = counted t ks held (any .1) in
-          let in-memory : Bytes log = rw now (bytes-append (log-of rs) rest (bytes-log rs so-far) (bytes-drop (length (log-of rs)) fresh bytes)) in
+          let in-memory : Any-log log = record {
+            bytes = rw now (bytes-append (log-of rs) rest (bytes-log rs so-far) (bytes-drop (length (log-of rs)) fresh (holds .bytes)));
+            fits = rw (all-same-size so-far all) (holds .fits);
+          } in
           subst (λ (n : ℕ). Keeps log n (four-of e) (wrote .number) (wrote .log)) clock (is log (table-after c t ks .clock) e in-memory (omega (arith, clock, early ks e any z)) (any .0))
 
       -- it answers 0 exactly if there is room, else 13
@@ -114,8 +117,8 @@ module _ (c : Calls) (k : Log-call) (d₂ : Demand-2 c) (is : Log-stated k) wher
 pub every-event-kept : (c : Calls) (k : Log-call) → Demand-2 c → Log-stated k → Every-event-kept c k
 every-event-kept c k d₂ is = record {
   counted = counted c k d₂ is;
-  kept = λ t fresh ks held bytes any room. kept-all (fours c t ks any) (all-kept c k d₂ is t fresh held bytes ks any room);
-  answered = λ t fresh ks e held bytes any room z. told c k d₂ is t fresh held bytes ks e any z (all-kept c k d₂ is t fresh held bytes ks (any .1) room);
+  kept = λ t fresh ks held holds any room. kept-all (fours c t ks any) (all-kept c k d₂ is t fresh held holds ks any room);
+  answered = λ t fresh ks e held holds any room z. told c k d₂ is t fresh held holds ks e any z (all-kept c k d₂ is t fresh held holds ks (any .1) room);
 }
 
 -- So do the functions that the contracts name, with no premise at all.

@@ -4,7 +4,7 @@ use mathlib.Core.Path.{_≡_, refl, _∙_}
 use mathlib.Core.Logic.{_↔_}
 use mathlib.Core.List.{List, [], _∷_, map}
 use native.Mathlib.Omega.{arith}
-use lib.ListN.{length-map}
+use lib.ListN.{length, length-map}
 use mir.Syntax.{Width, w8, w16, w32, named}
 use mir.Val.{Val, vint, bits}
 use base.Fml.{Lft}
@@ -13,8 +13,8 @@ use denote.Plain.{UInt}
 use denote.Array as value
 use denote.Array.{each}
 use denote.Laws.{Is}
-use denote.Ref.{MutRef, ShrRef}
-use denote.Slice.{MutSlice}
+use denote.Ref.{RefT, MutRef, ShrRef}
+use denote.Slice.{MutSlice, slice-vals}
 use denote.Signature.{typesAt}
 use denote.Struct.Laws.{vals, owes, owed}
 use Rattle.table.specs.declared.Table.{Table}
@@ -31,7 +31,9 @@ use Rattle.locktable.proofs.locktable_running as running
 use Rattle.locktable.proofs.locktable_thread as thread
 use Rattle.locktable.proofs.locktable_resource as resource
 use Rattle.locktable.proofs.locktable_log as log
+use Rattle.log.specs.Bytes.{Bytes}
 use Rattle.demands.specs.Memory.{Array, Any-table, Any-record}
+use Rattle.demands.specs.Kept.{Any-log}
 
 -- An array of numbers of one width, of which `highest` is the highest.
 module _ (w : Width) (highest : ℕ) (fits : (x : ℕ) → (x < 2 ^ bits w) ↔ (x ≤ highest)) where
@@ -108,3 +110,7 @@ resource-takes κ = refl
 -- The log's call is given a borrow of bytes, a number of 32 bits and a record.
 pub log-takes : (κ : Lft) → typesAt (log.signature .params) (κ, tt) ≡ MutSlice (named 0) κ (UInt w8) ∷ (UInt w32 ∷ (four-bytes.the-row ∷ []))
 log-takes κ = refl
+
+-- Of bytes, each of them a `UInt w8`, the type of the log holds those that are any log: it says of their number that it is below 2 ^ 63.
+pub log-is : (κ : Lft) (l : RefT (List ℕ)) → Bytes (l .now) → Is (MutSlice (named 0) κ (UInt w8)) l (slice-vals l) ↔ Any-log (l .now)
+log-is κ l bytes = ((λ p. record { bytes = bytes; fits = omega (arith, p .0 .1 .1) }), λ a. let fits = a .fits in ((refl, (omega arith, omega arith)), (tt, tt)))

@@ -26,13 +26,18 @@ pub record Wrote : Type 0 where
 abbrev pub Log-call : Type 0
 Log-call = List ℕ → ℕ → Record → Wrote
 
+-- any log: whatever bytes a lent buffer can hold; it is shorter than 2 ^ 63
+pub record Any-log (log : List ℕ) : Type 0 where
+  pub bytes : Bytes log
+  pub fits : length log < 9223372036854775808
+
 -- what the call's contract says of a buffer, a number and a record, and of what is left
 abbrev pub Log-says : List ℕ → ℕ → Record → Wrote → Type 0
 Log-says log n e w = Keeps log n (four-of e) (w .number) (w .log)
 
--- the function does what the contract says, for any bytes
+-- the function does what the contract says, for any log, number and record
 abbrev pub Log-stated : Log-call → Type 0
-Log-stated k = (log : List ℕ) (n : ℕ) (e : Record) → Bytes log → n < 4294967296 → Any-record e → Log-says log n e (k log n e)
+Log-stated k = (log : List ℕ) (n : ℕ) (e : Record) → Any-log log → n < 4294967296 → Any-record e → Log-says log n e (k log n e)
 
 -- Demand 1 of this call: it refuses with a number fixed beforehand, and "a refused call changes no byte", here of the buffer
 abbrev pub Log-fixed : List ℕ → Wrote → Type 0
@@ -54,9 +59,9 @@ log-after c k t fresh (ask q ∷ ks) = log-after c k t fresh ks
 pub record Every-event-kept (c : Calls) (k : Log-call) : Type 0 where
   -- the records are as many as the clock says
   pub counted : (t : Table) (ks : List Call) → Any-table t → Any-calls ks → table-after c t ks .clock ≡ length (records c t ks)
-  pub kept : (t : Table) (fresh : List ℕ) (ks : List Call) → Any-table t → Bytes fresh → Any-calls ks → 512 * blocks-for (length (records c t ks)) ≤ length fresh
+  pub kept : (t : Table) (fresh : List ℕ) (ks : List Call) → Any-table t → Any-log fresh → Any-calls ks → 512 * blocks-for (length (records c t ks)) ≤ length fresh
       → log-after c k t fresh ks ≡ log-of (records c t ks) ++ drop (length (log-of (records c t ks))) fresh
   -- and the call for an event that is accepted next answers 0 exactly if there is room for that one too, else 13
-  pub answered : (t : Table) (fresh : List ℕ) (ks : List Call) (e : Record) → Any-table t → Bytes fresh → Any-calls (event e ∷ ks) → 512 * blocks-for (length (records c t ks)) ≤ length fresh
+  pub answered : (t : Table) (fresh : List ℕ) (ks : List Call) (e : Record) → Any-table t → Any-log fresh → Any-calls (event e ∷ ks) → 512 * blocks-for (length (records c t ks)) ≤ length fresh
       → number-of c t ks e ≡ 0 → let a = k (log-after c k t fresh ks) (table-after c t ks .clock) e .number in
       ((a ≡ 0) × (512 * blocks-for (length (records c t (event e ∷ ks))) ≤ length fresh)) ⊎ ((a ≡ 13) × (length fresh < 512 * blocks-for (length (records c t (event e ∷ ks)))))
