@@ -82,6 +82,7 @@ static enum kind kind_of(struct locktable_record e)
 /* What a side answers to an event, and to the queries after it. */
 struct outcome {
     uint8_t number, running, count, asked_running, waits_for, holder;
+    uint16_t requests, releases;
 };
 
 static struct outcome run(struct side *s, enum kind kind, struct locktable_record e)
@@ -90,7 +91,7 @@ static struct outcome run(struct side *s, enum kind kind, struct locktable_recor
     struct locktable_running_answer x = s->running(&s->table);
     struct locktable_thread_answer y = s->thread(&s->table, e.thread);
     struct locktable_resource_answer z = s->resource(&s->table, e.argument);
-    return (struct outcome){ a.number, a.running, a.count, x.running, y.waits_for, z.holder };
+    return (struct outcome){ a.number, a.running, a.count, x.running, y.waits_for, z.holder, y.requests, y.releases };
 }
 
 /* One event on all tables, and the queries after it. */

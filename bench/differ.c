@@ -12,7 +12,7 @@
 #include "model.h"
 
 /* Kinds: 0, the five of the header, and all beyond. A count is at most the number of resources: a chain has so many holders. */
-enum { NUMBERS = LOCKTABLE_STILL_HOLDS + 1, OTHER_KINDS = LOCKTABLE_V + 1, KINDS, COUNTS = LOCKTABLE_RESOURCES + 1, ANSWER = 6 };
+enum { NUMBERS = LOCKTABLE_STILL_HOLDS + 1, OTHER_KINDS = LOCKTABLE_V + 1, KINDS, COUNTS = LOCKTABLE_RESOURCES + 1, ANSWER = 8 };
 enum call { STEP, EMPTY, RUNNING, THREAD, RESOURCE, LOG, CALLS };
 static const char *const call_names[CALLS] = { "step", "empty", "running", "thread", "resource", "log" };
 /* What a log call comes to; 0 stands here twice. And the rules of a block that goes on: a bit each in the model's set. */
@@ -20,6 +20,9 @@ enum outcome { FRESH, GOES_ON, RUN_OUT, TOO_SHORT, NOT_AS_SAID, OUTCOMES };
 static const char *const outcome_names[OUTCOMES] = { "0 fresh", "0 going on", "5", "13", "14" };
 enum { RULES = 5 };
 static const char *const rule_names[RULES] = { "number", "count", "spare bytes", "unused records", "check" };
+/* What can be wrong with the totals of a table: a bit each in the model's set. */
+enum { WRONGS = 3 };
+static const char *const wrong_names[WRONGS] = { "out of balance", "above the clock", "not zero in a dead slot" };
 
 struct side {
     const char *name;
@@ -43,6 +46,7 @@ enum { SIDES = sizeof sides / sizeof sides[0] };
 static struct {
     unsigned long long seed, test, event;
     unsigned long long calls[CALLS], steps[KINDS][NUMBERS], counts[COUNTS], damaged[2], broken[2], made[2]; /* unsound, sound */
+    unsigned long long wrong_alone[WRONGS], at_clock; /* tables unsound by one wrong of totals, sound with a total equal to the clock */
     unsigned long long outcomes[OUTCOMES], alone[RULES], several, places[LOCKTABLE_BLOCK_RECORDS]; /* of log calls */
 } run;
 
@@ -65,6 +69,7 @@ static void ask(const struct side *s, enum call call, struct locktable *t, struc
         struct locktable_thread_answer a = s->thread(t, e.thread);
         answer[0] = a.number, answer[1] = a.priority, answer[2] = a.time;
         answer[3] = a.current_priority, answer[4] = a.current_time, answer[5] = a.waits_for;
+        answer[6] = a.requests, answer[7] = a.releases;
     } else {
         struct locktable_resource_answer a = s->resource(t, e.thread);
         answer[0] = a.number, answer[1] = a.holder, answer[2] = a.waiters;
@@ -148,13 +153,25 @@ static void compare_all_queries(struct locktable *t)
         compare_query(RESOURCE, t, i);
 }
 
+/* Counts what came up of totals, in a table that breaks these rules. A total may be as high as the clock. */
+static void note_totals(const struct locktable *t, unsigned broken)
+{
+    bool at_clock = false;
+    for (int i = 0; i < LOCKTABLE_THREADS; i++)
+        at_clock |= t->live[i] && t->requests[i] == t->clock;
+    run.at_clock += broken == 0 && at_clock;
+    for (int i = 0; i < WRONGS; i++)
+        run.wrong_alone[i] += broken == 1u << i;
+}
+
 /* A record and the queries on a table that stands alone; tells whether it was sound. In one that isn't nobody runs, so any thread may be
    meant: each kind of event must be refused there. */
 static bool compare_lone(struct dice *d, const struct mood *m, struct locktable t)
 {
-    struct locktable_running_answer runs = model_running(&t);
-    bool sound = runs.number != LOCKTABLE_NOT_SOUND;
-    unsigned answer[ANSWER], acting = sound ? runs.running : roll(d, LOCKTABLE_THREADS);
+    unsigned broken = model_broken_totals(&t), answer[ANSWER];
+    bool sound = broken == 0;
+    unsigned acting = sound ? model_running(&t).running : roll(d, LOCKTABLE_THREADS);
+    note_totals(&t, broken);
     compare_some_queries(d, &t);
     compare(STEP, &t, draw_record(d, m, &t, acting), answer);
     return sound;
@@ -461,6 +478,10 @@ static void print_totals(void)
     printf("\ntables with 1 to 4 bytes changed: %llu unsound, %llu still sound\n", run.damaged[0], run.damaged[1]);
     printf("tables with at most one rule broken: %llu unsound, %llu still sound\n", run.broken[0], run.broken[1]);
     printf("made tables: %llu unsound, %llu sound\n", run.made[0], run.made[1]);
+    printf("tables unsound only because totals are");
+    for (int i = 0; i < WRONGS; i++)
+        printf("%s %s: %llu", i > 0 ? "," : "", wrong_names[i], run.wrong_alone[i]);
+    printf("; sound with one equal to the clock: %llu\n", run.at_clock);
     print_log_totals();
 }
 
@@ -477,6 +498,18 @@ static bool all_met_in_logs(void)
     for (int i = 0; i < LOCKTABLE_BLOCK_RECORDS; i++)
         if (run.places[i] == 0)
             met = false, printf("FAILED: no record was accepted at place %d of a block\n", i);
+    return met;
+}
+
+/* Of the totals each thing that can be wrong, alone, and the most that is sound. */
+static bool all_met_in_totals(void)
+{
+    bool met = true;
+    for (int i = 0; i < WRONGS; i++)
+        if (run.wrong_alone[i] == 0)
+            met = false, printf("FAILED: no table was unsound only because a total was %s\n", wrong_names[i]);
+    if (run.at_clock == 0)
+        met = false, printf("FAILED: no sound table had a total equal to the clock\n");
     return met;
 }
 
@@ -497,6 +530,7 @@ static bool all_met(void)
     for (int i = 0; i < KINDS; i++)
         if (run.steps[i][LOCKTABLE_NOT_SOUND] == 0)
             met = false, printf("FAILED: no unsound table was given an event of kind %d\n", i);
+    met &= all_met_in_totals();
     return all_met_in_logs() && met;
 }
 

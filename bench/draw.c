@@ -118,14 +118,23 @@ struct locktable_record draw_busy_record(struct dice *d, const struct mood *m, c
     return live < m->threads ? create_record(d, m, t) : own_record(d, m, t, running);
 }
 
+/* A byte of a table, every second one away from the queues, which are most of the bytes. */
+static unsigned draw_byte(struct dice *d)
+{
+    enum { QUEUE = offsetof(struct locktable, queue), LENGTH = offsetof(struct locktable, length) };
+    enum { TOTALS = offsetof(struct locktable, requests), END = sizeof(struct locktable) };
+    if (chance(d, 50))
+        return roll(d, END);
+    if (chance(d, 75))
+        return roll(d, QUEUE);
+    return chance(d, 50) ? LENGTH + roll(d, TOTALS - LENGTH) : TOTALS + roll(d, END - TOTALS);
+}
+
 void damage(struct dice *d, struct locktable *t)
 {
     uint8_t *bytes = (uint8_t *)t;
     for (unsigned left = 1 + roll(d, 4); left > 0; left--) {
-        /* Half of the damage away from the queues, which are most of the bytes. */
-        unsigned at = roll(d, sizeof *t);
-        if (chance(d, 50))
-            at = chance(d, 85) ? roll(d, offsetof(struct locktable, queue)) : offsetof(struct locktable, length) + roll(d, LOCKTABLE_RESOURCES);
+        unsigned at = draw_byte(d);
         switch (roll(d, 4)) {
         case 0: bytes[at] = (uint8_t)roll(d, 256); break;
         case 1: bytes[at] ^= (uint8_t)(1u << roll(d, 8)); break;
@@ -168,10 +177,51 @@ static void swap_entries(struct locktable *t, unsigned resource, unsigned a, uns
 static void kill(struct locktable *t, unsigned thread)
 {
     t->live[thread] = t->priority[thread] = t->current_priority[thread] = 0;
-    t->time[thread] = t->current_time[thread] = 0;
+    t->time[thread] = t->current_time[thread] = t->requests[thread] = t->releases[thread] = 0;
 }
 
-/* Of dead slots, lives, spare places and lengths: nothing else depends on them. */
+/* One who waits twice, which is not sound, has open one request for waiting, as document 02 says. Here it gets one for each time, so that
+   who counts its places finds nothing wrong with its totals. */
+static void count_each_wait(struct locktable *t)
+{
+    uint32_t seen = 0;
+    for (unsigned r = 0; r < LOCKTABLE_RESOURCES; r++)
+        for (unsigned i = 1; i < t->length[r]; i++) {
+            unsigned thread = t->queue[first_place(r) + i];
+            t->requests[thread] += seen >> thread & 1;
+            seen |= (uint32_t)1 << thread;
+        }
+}
+
+/* The totals that go with queues and clock, and as far as can be with the releases that there are. */
+static void mend_totals(struct dice *d, struct locktable *t)
+{
+    model_set_totals(t);
+    if (chance(d, 50))
+        count_each_wait(t);
+}
+
+/* Any releases, few or as many as the clock has room for. The dice are others, so that all else is the same as without totals. */
+static void draw_totals(const struct dice *drawn, struct locktable *t)
+{
+    struct dice d = { ~drawn->state };
+    for (unsigned i = 0; i < LOCKTABLE_THREADS; i++) {
+        unsigned which = roll(&d, 8), below = which == 0 ? 3 : t->clock + 1u;
+        t->releases[i] = which == 1 ? UINT16_MAX : (uint16_t)roll(&d, below);
+    }
+    mend_totals(&d, t);
+}
+
+/* By any number. If the queue can still be read, totals are those of who stands there then. */
+static void lengthen(struct dice *d, struct locktable *t, unsigned resource)
+{
+    unsigned length = t->length[resource];
+    t->length[resource] = (uint8_t)(length + roll(d, 256 - length));
+    if (t->length[resource] <= LOCKTABLE_THREADS)
+        mend_totals(d, t);
+}
+
+/* Of dead slots, lives, spare places and lengths: nothing else depends on them but totals. */
 static void break_a_plain_rule(struct dice *d, struct locktable *t, unsigned thread, unsigned resource)
 {
     unsigned length = t->length[resource], spare = first_place(resource) + length + roll(d, LOCKTABLE_THREADS - length);
@@ -180,12 +230,12 @@ static void break_a_plain_rule(struct dice *d, struct locktable *t, unsigned thr
     case 1: t->time[thread] = t->current_time[thread] = (uint16_t)roll(d, t->clock + 1u); break;
     case 2: t->live[thread] = (uint8_t)(t->live[thread] + 2 * roll(d, 128)); break;
     case 3: t->queue[spare] = (uint8_t)(1 + roll(d, 255)); break;
-    case 4: t->length[resource] = (uint8_t)(length + roll(d, 256 - length)); break;
+    case 4: lengthen(d, t, resource); break;
     default: t->current_time[thread] = t->time[roll(d, LOCKTABLE_THREADS)]; break;
     }
 }
 
-/* Of times and queues. The current precedences are then those of the new table, so that they do not give it away. */
+/* Of times and queues. The current precedences and the totals are then those of the new table, so that they do not give it away. */
 static void break_a_queue_rule(struct dice *d, struct locktable *t, unsigned thread, unsigned resource)
 {
     unsigned length = t->length[resource], place = roll(d, length > 0 ? length : 1);
@@ -197,6 +247,46 @@ static void break_a_queue_rule(struct dice *d, struct locktable *t, unsigned thr
     default: swap_entries(t, resource, place, roll(d, length > 0 ? length : 1)); break;
     }
     model_set_currents(t);
+    mend_totals(d, t);
+}
+
+/* Both by so many, so that they stay in balance, be it above the clock. */
+static void raise_totals(struct locktable *t, unsigned thread, unsigned by)
+{
+    t->requests[thread] += by;
+    t->releases[thread] += by;
+}
+
+/* Where the clock is at its end: requests that have run over, and releases not yet; or both close to the end, in balance or not. */
+static void run_over(struct dice *d, struct locktable *t, unsigned thread)
+{
+    t->clock = LOCKTABLE_EVENTS;
+    raise_totals(t, thread, LOCKTABLE_EVENTS + 1u - t->requests[thread]);
+    if (chance(d, 50))
+        return;
+    t->requests[thread] = (uint16_t)(LOCKTABLE_EVENTS - roll(d, 3));
+    t->releases[thread] = (uint16_t)(LOCKTABLE_EVENTS - roll(d, 6));
+}
+
+/* Of totals: their balance, the clock, dead slots. Every second time it is a live thread's, if one comes up soon. */
+static void break_a_total(struct dice *d, struct locktable *t, unsigned thread)
+{
+    unsigned what = roll(d, 9), other = roll(d, LOCKTABLE_THREADS), any = roll(d, t->clock + 1u), one = chance(d, 50) ? 1 : UINT16_MAX;
+    for (int i = roll(d, 2) * 16; i > 0 && !t->live[thread]; i--)
+        thread = roll(d, LOCKTABLE_THREADS);
+    uint16_t kept = t->requests[thread];
+    unsigned room = t->clock > kept ? t->clock - kept : 0;
+    switch (what) {
+    case 0: t->requests[thread] = (uint16_t)any; break;
+    case 1: t->releases[thread] = (uint16_t)any; break;
+    case 2: t->requests[thread] += one; break;
+    case 3: t->releases[thread] += one; break;
+    case 4: t->requests[thread] = t->requests[other], t->requests[other] = kept; break;
+    case 5: raise_totals(t, thread, roll(d, room + 1)); break;
+    case 6: raise_totals(t, thread, room + 1); break;
+    case 7: raise_totals(t, thread, room + 1 + roll(d, 100)); break;
+    default: run_over(d, t, thread); break;
+    }
 }
 
 void break_a_rule(struct dice *d, struct locktable *t)
@@ -205,7 +295,9 @@ void break_a_rule(struct dice *d, struct locktable *t)
     /* A queue that is in use, if one comes up soon. */
     for (int i = 0; i < 8 && t->length[resource] == 0; i++)
         resource = roll(d, LOCKTABLE_RESOURCES);
-    if (t->length[resource] == LOCKTABLE_THREADS || chance(d, 50))
+    if (chance(d, 30))
+        break_a_total(d, t, thread);
+    else if (t->length[resource] == LOCKTABLE_THREADS || chance(d, 50))
         break_a_queue_rule(d, t, thread, resource);
     else
         break_a_plain_rule(d, t, thread, resource);
@@ -229,6 +321,7 @@ void make_table(struct dice *d, const struct mood *m, struct locktable *t)
                 put(t, r, i);
     }
     model_set_currents(t);
+    draw_totals(d, t);
 }
 
 static void shuffle(struct dice *d, uint8_t *ids, unsigned n)
@@ -259,6 +352,7 @@ void make_chain(struct dice *d, unsigned length, unsigned waiting_percent, unsig
         if (chance(d, waiting_percent))
             put(t, c->resource[roll(d, length)], c->thread[i]);
     model_set_currents(t);
+    draw_totals(d, t);
 }
 
 void fill_with_noise(struct dice *d, struct locktable *t)

@@ -3,8 +3,8 @@
 #include "locktable.h"
 #include "locktable.h"
 
-#if LOCKTABLE_VERSION != 2
-#error "these answers are those of version 2"
+#if LOCKTABLE_VERSION != 3
+#error "these answers are those of version 3"
 #endif
 
 /* Through pointers, so that no compiler takes its own convention for the call: their types have LOCKTABLE_ABI, as the header says. */
@@ -15,6 +15,7 @@ static uint8_t (LOCKTABLE_ABI *volatile keep)(uint8_t *, size_t, uint32_t, struc
 static int steps_right(struct locktable *t)
 {
     struct locktable_record create = { LOCKTABLE_CREATE, 3, 200, 0 }, request = { LOCKTABLE_P, 3, 5, 0 };
+    struct locktable_record another = { LOCKTABLE_P, 3, 6, 0 }, release = { LOCKTABLE_V, 3, 6, 0 };
     struct locktable_answer a, b, c;
     empty(t);
     a = locktable_step(t, create);
@@ -23,7 +24,8 @@ static int steps_right(struct locktable *t)
     return a.number == LOCKTABLE_ACCEPTED && a.running == 3 && a.count == 1
         && b.number == LOCKTABLE_ACCEPTED && b.running == 3 && b.count == 0
         && c.number == LOCKTABLE_ALREADY_LIVE && c.running == 3 && c.count == 0
-        && LOCKTABLE_EVENTS_LEFT(t) == LOCKTABLE_EVENTS - 2;
+        && step(t, another).number == LOCKTABLE_ACCEPTED && step(t, release).number == LOCKTABLE_ACCEPTED
+        && LOCKTABLE_EVENTS_LEFT(t) == LOCKTABLE_EVENTS - 4;
 }
 
 static int queries_right(const struct locktable *t)
@@ -34,6 +36,7 @@ static int queries_right(const struct locktable *t)
     return a.number == LOCKTABLE_ACCEPTED && a.running == 3
         && b.number == LOCKTABLE_ACCEPTED && b.priority == 200 && b.time == 0
         && b.current_priority == 200 && b.current_time == 0 && b.waits_for == LOCKTABLE_NOTHING
+        && b.requests == 2 && b.releases == 1
         && c.number == LOCKTABLE_ACCEPTED && c.holder == 3 && c.waiters == 0
         && locktable_thread(t, LOCKTABLE_NOBODY).number == LOCKTABLE_NO_SUCH_THREAD
         && locktable_resource(t, LOCKTABLE_NOTHING).number == LOCKTABLE_MALFORMED;

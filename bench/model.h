@@ -20,8 +20,17 @@ DECLARE_CALLS(best);  /* best.c: SSE2 by hand */
 /* For making tables: sets every live thread's current precedence to the defined one. Queues must have lengths of at most 32
    and entries of at most 31. */
 void model_set_currents(struct locktable *t);
+/* For making tables too, with such queues: sets every live thread's requests so that they balance with its releases, which are lowered
+   where the requests would be above the clock, and a dead one's totals to 0. */
+void model_set_totals(struct locktable *t);
 /* Whether the table is sound. */
 bool model_sound(const struct locktable *t);
+
+/* Why a table is not sound: what document 02 says of totals, each a bit in a set of those that it breaks, and all that document 01 says in
+   one. */
+enum table_rule { BALANCE_RULE = 1, CLOCK_RULE = 2, DEAD_RULE = 4, OTHER_RULES = 8 };
+/* Which of them the table breaks; where it breaks others the totals are not looked at. */
+unsigned model_broken_totals(const struct locktable *t);
 
 /* What a block that takes a record, and does not start with it, has to be like; each a bit in a set of those that it breaks. */
 enum block_rule { NUMBER_RULE = 1, COUNT_RULE = 2, SPARE_RULE = 4, UNUSED_RULE = 8, CHECK_RULE = 16 };

@@ -1,6 +1,6 @@
 /* What include/locktable.h says of the calls, beyond their answers, and can be tried by running them: which memory they write, how a table
-   comes to its end, how a kernel keeps its log, and that tables and logs are independent. What it says of the machine code is tried by
-   bench/header. */
+   comes to its end, what the totals tell, how a kernel keeps its log, and that tables and logs are independent. What it says of the machine
+   code is tried by bench/header. */
 #define _DEFAULT_SOURCE /* for mmap and setitimer beside C11 */
 #include <pthread.h>
 #include <signal.h>
@@ -152,7 +152,7 @@ static void queries_only_read(void)
 {
     struct locktable table = two_holders(), unsound = table;
     const struct locktable *t = on_page(&table, PROT_READ);
-    bool answered = locktable_running(t).running == 1 && locktable_thread(t, 0).current_priority == 10
+    bool answered = locktable_running(t).running == 1 && locktable_thread(t, 0).current_priority == 10 && locktable_thread(t, 1).requests == 1
         && locktable_thread(t, 2).number == LOCKTABLE_NOT_LIVE && locktable_thread(t, 32).number == LOCKTABLE_NO_SUCH_THREAD
         && locktable_resource(t, 1).holder == 1 && locktable_resource(t, 16).number == LOCKTABLE_MALFORMED;
     unsound.live[9] = 2;
@@ -303,8 +303,13 @@ static void tables_begin_anew(void)
             if ((e = draw_busy_record(&d, &m, &t, locktable_running(&t).running)).kind < LOCKTABLE_P)
                 locktable_step(&t, e);
         unsigned running = locktable_running(&t).running;
+        if (running != LOCKTABLE_NOBODY) {
+            expect(number_of(&t, LOCKTABLE_P, running, 0) == LOCKTABLE_ACCEPTED, "a resource that is free can be taken");
+            expect(number_of(&t, LOCKTABLE_V, running, 0) == LOCKTABLE_ACCEPTED, "what is held can be given back");
+        }
         begin_anew(&t);
         expect(locktable_running(&t).running == running, "the same thread runs where a table is begun anew");
+        expect(locktable_thread(&t, (uint8_t)running).requests == 0, "totals begin at 0 where a table is begun anew");
     }
     printf("promises: a table where nobody holds anything is begun anew, and the same thread runs, %d times\n", HISTORIES);
 }
@@ -327,6 +332,83 @@ static void running_holds(void)
         holds ? held++ : waited++;
     }
     printf("promises: after a P its thread runs exactly if it holds the resource: %d times it does, %d it waits\n", held, waited);
+}
+
+/* Of each thread since its last Create: its accepted P and V, and how often it came to hold a resource. */
+struct totals { unsigned requests[LOCKTABLE_THREADS], releases[LOCKTABLE_THREADS], got[LOCKTABLE_THREADS]; };
+
+/* After an accepted event. A P or V that leaves a holder behind has made it holder, but for a P that waits. */
+static void count_event(struct totals *totals, const struct locktable *t, struct locktable_record e)
+{
+    if (e.kind == LOCKTABLE_CREATE)
+        totals->requests[e.thread] = totals->releases[e.thread] = totals->got[e.thread] = 0;
+    if (e.kind != LOCKTABLE_P && e.kind != LOCKTABLE_V)
+        return;
+    unsigned holder = locktable_resource(t, e.argument).holder;
+    totals->requests[e.thread] += e.kind == LOCKTABLE_P;
+    totals->releases[e.thread] += e.kind == LOCKTABLE_V;
+    if (holder != LOCKTABLE_NOBODY && (e.kind == LOCKTABLE_V || holder == e.thread))
+        totals->got[holder]++;
+}
+
+static unsigned resources_held(const struct locktable *t, unsigned thread)
+{
+    unsigned held = 0;
+    for (uint8_t r = 0; r < LOCKTABLE_RESOURCES; r++)
+        held += locktable_resource(t, r).holder == thread;
+    return held;
+}
+
+/* A thread's totals are those of the events, and what the header reads from them is so. Of a dead one zeros are shown. */
+static void expect_totals(const struct locktable *t, const struct totals *totals, unsigned thread)
+{
+    struct locktable_thread_answer a = locktable_thread(t, (uint8_t)thread);
+    unsigned waits = a.waits_for != LOCKTABLE_NOTHING;
+    if (a.number != LOCKTABLE_ACCEPTED) {
+        expect(a.number == LOCKTABLE_NOT_LIVE && a.requests == 0 && a.releases == 0, "a dead thread has no totals");
+        return;
+    }
+    expect(a.requests == totals->requests[thread] && a.releases == totals->releases[thread], "totals are those of the events since a Create");
+    expect(a.requests == totals->got[thread] + waits, "requests, less 1 if it waits, are how often a thread got a lock");
+    expect(a.requests == a.releases + resources_held(t, thread) + waits, "that less releases is how many it holds");
+}
+
+/* One thread takes a resource and gives it back until the table has come to its end. */
+static unsigned longest_totals(void)
+{
+    struct totals totals = { { 0 }, { 0 }, { 0 } };
+    struct locktable t;
+    locktable_empty(&t);
+    expect(number_of(&t, LOCKTABLE_CREATE, 0, 10) == LOCKTABLE_ACCEPTED, "a thread can be created");
+    while (LOCKTABLE_EVENTS_LEFT(&t) > 0) {
+        struct locktable_record e = { totals.requests[0] == totals.releases[0] ? LOCKTABLE_P : LOCKTABLE_V, 0, 0, 0 };
+        expect(locktable_step(&t, e).number == LOCKTABLE_ACCEPTED, "a resource can be taken and given back while events are left");
+        count_event(&totals, &t, e);
+    }
+    expect_totals(&t, &totals, 0);
+    return totals.requests[0];
+}
+
+/* Histories with refused events among them: after each accepted one its thread, and in the end all threads. */
+static void totals_are_counted(void)
+{
+    struct dice d = { 8 };
+    struct locktable t;
+    for (int i = 0; i < HISTORIES; i++) {
+        struct mood m = draw_mood(&d);
+        struct totals totals = { { 0 }, { 0 }, { 0 } };
+        locktable_empty(&t);
+        for (unsigned events = roll(&d, 300); events > 0; events--) {
+            struct locktable_record e = draw_record(&d, &m, &t, locktable_running(&t).running);
+            if (locktable_step(&t, e).number != LOCKTABLE_ACCEPTED)
+                continue;
+            count_event(&totals, &t, e);
+            expect_totals(&t, &totals, e.thread);
+        }
+        for (unsigned thread = 0; thread < LOCKTABLE_THREADS; thread++)
+            expect_totals(&t, &totals, thread);
+    }
+    printf("promises: totals are those of the events, in %d histories and up to %u requests of one thread\n", HISTORIES, longest_totals());
 }
 
 /* A record that differs from its neighbours. */
@@ -532,7 +614,8 @@ static void play(struct player *p)
     struct locktable_resource_answer resource = locktable_resource(&p->table, e.argument);
     uint8_t logged = a.number != LOCKTABLE_ACCEPTED ? a.number : locktable_log(p->log, sizeof p->log, p->table.clock - 1u, e);
     in_a_call = 0;
-    uint64_t said[] = { a.number, a.running, a.count, thread.current_priority, thread.current_time, resource.holder, logged };
+    uint64_t said[] = { a.number, a.running, a.count, thread.current_priority, thread.current_time, thread.requests, thread.releases,
+                        resource.holder, logged };
     for (size_t i = 0; i < sizeof said / sizeof *said; i++)
         p->heard = mix(p->heard ^ said[i]);
     p->played++;
@@ -623,6 +706,7 @@ int main(void)
     tables_drain();
     tables_begin_anew();
     running_holds();
+    totals_are_counted();
     refused_logs_only_read();
     logs_touch_one_block();
     logs_keep_what_is_accepted();

@@ -99,12 +99,19 @@ static void new_holder(struct dice *d, struct trial *s)
 
 static unsigned other_of(unsigned x, unsigned a, unsigned b) { return x == a ? b : x == b ? a : x; }
 
+static void swap_words(uint16_t *a, uint16_t *b)
+{
+    uint16_t kept = *a;
+    *a = *b;
+    *b = kept;
+}
+
 /* Two threads change ids, and nothing else. */
 static void exchange_threads(struct locktable *t, unsigned a, unsigned b)
 {
-    uint16_t kept = t->time[a];
-    t->time[a] = t->time[b];
-    t->time[b] = kept;
+    swap_words(t->time + a, t->time + b);
+    swap_words(t->requests + a, t->requests + b);
+    swap_words(t->releases + a, t->releases + b);
     swap_bytes(t->live + a, t->live + b);
     swap_bytes(t->priority + a, t->priority + b);
     for (unsigned r = 0; r < LOCKTABLE_RESOURCES; r++)
@@ -197,12 +204,13 @@ static unsigned held_from(const struct locktable *t, unsigned start, unsigned th
     return start;
 }
 
-/* Puts right what depends on the rest: the current precedences, and that the record is one of the running thread, a V one of what it holds,
-   since most refusals are cheap. False if the table is not sound, or nobody is live. */
+/* Puts right what depends on the rest: the current precedences, the totals, and that the record is one of the running thread, a V one of
+   what it holds, since most refusals are cheap. False if the table is not sound, or nobody is live. */
 static bool settle(struct trial *s)
 {
     struct locktable_record *e = &s->record;
     model_set_currents(&s->table);
+    model_set_totals(&s->table);
     unsigned runs = model_running(&s->table).running;
     if (runs == LOCKTABLE_NOBODY)
         return false;
@@ -219,7 +227,8 @@ static bool higher(const struct locktable *t, unsigned a, unsigned b)
     return t->live[a] && t->live[b] && (t->priority[a] > t->priority[b] || (t->priority[a] == t->priority[b] && t->time[a] < t->time[b]));
 }
 
-/* The same order of own precedences in small numbers: priorities from 0 up, and set times by ids, which all share a mark. */
+/* The same order of own precedences in small numbers: priorities from 0 up, and set times by ids, which all share a mark. Nobody has
+   released anything. */
 static void tidy(struct locktable *t)
 {
     uint8_t rank[LOCKTABLE_THREADS] = { 0 };
@@ -229,6 +238,7 @@ static void tidy(struct locktable *t)
     for (unsigned i = 0; i < LOCKTABLE_THREADS; i++)
         t->time[i] = t->live[i] ? (uint16_t)(MARKS * i) : 0;
     memcpy(t->priority, rank, sizeof rank);
+    memset(t->releases, 0, sizeof t->releases);
     t->clock = MARKS * LOCKTABLE_THREADS;
 }
 
@@ -246,6 +256,7 @@ static void draw_trial(struct dice *d, struct trial *s)
             tidy(&s->table);
     }
     model_set_currents(&s->table);
+    model_set_totals(&s->table);
     s->record = draw_record(d, &m, &s->table, model_running(&s->table).running);
 }
 

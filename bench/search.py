@@ -12,7 +12,7 @@ import subprocess
 
 HERE = os.path.dirname(os.path.abspath(__file__))
 STEPS = {'ours': 'locktable_step', 'fast': 'fast_step'}
-TRIAL = 754 + 4  # bytes: a table and a record
+TRIAL = 882 + 4  # bytes: a table and a record
 DRAWN, CLIMBERS, HALVINGS, CHILDREN = 20000, 32, 5, 3000
 TRIALS, CLIMBING, CALLS, COUNTS = 'search.trials', 'search.climbing', 'search.calls', 'search.count'
 

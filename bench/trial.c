@@ -21,23 +21,26 @@ void print_trial(const struct trial *s)
 {
     const struct locktable *t = &s->table;
     printf("# kind, thread, argument, zero\nrecord %u %u %u %u\n", s->record.kind, s->record.thread, s->record.argument, s->record.zero);
-    printf("clock %u\n# id, own priority and time, current priority and time\n", t->clock);
+    printf("clock %u\n# id, own priority and time, current priority and time, requests, releases\n", t->clock);
     for (unsigned i = 0; i < LOCKTABLE_THREADS; i++)
         if (t->live[i])
-            printf("thread %2u  %3u %5u  %3u %5u\n", i, t->priority[i], t->time[i], t->current_priority[i], t->current_time[i]);
+            printf("thread %2u  %3u %5u  %3u %5u  %5u %5u\n", i, t->priority[i], t->time[i], t->current_priority[i], t->current_time[i],
+                   t->requests[i], t->releases[i]);
     printf("# id, holder, waiters\n");
     for (unsigned r = 0; r < LOCKTABLE_RESOURCES; r++)
         if (t->length[r] > 0)
             print_resource(t, r);
 }
 
-static void take_thread(const unsigned long n[5], struct locktable *t)
+static void take_thread(const unsigned long n[7], struct locktable *t)
 {
     t->live[n[0]] = 1;
     t->priority[n[0]] = (uint8_t)n[1];
     t->time[n[0]] = (uint16_t)n[2];
     t->current_priority[n[0]] = (uint8_t)n[3];
     t->current_time[n[0]] = (uint16_t)n[4];
+    t->requests[n[0]] = (uint16_t)n[5];
+    t->releases[n[0]] = (uint16_t)n[6];
 }
 
 static void take_resource(const unsigned long *n, unsigned numbers, struct locktable *t)
@@ -54,7 +57,7 @@ static bool take(const char *word, const unsigned long *n, unsigned numbers, str
         s->record = (struct locktable_record){ (uint8_t)n[0], (uint8_t)n[1], (uint8_t)n[2], (uint8_t)n[3] };
     else if (strcmp(word, "clock") == 0 && numbers == 1)
         s->table.clock = (uint16_t)n[0];
-    else if (strcmp(word, "thread") == 0 && numbers == 5 && n[0] < LOCKTABLE_THREADS)
+    else if (strcmp(word, "thread") == 0 && numbers == 7 && n[0] < LOCKTABLE_THREADS)
         take_thread(n, &s->table);
     else if (strcmp(word, "resource") == 0 && numbers > 1 && n[0] < LOCKTABLE_RESOURCES)
         take_resource(n, numbers, &s->table);

@@ -10,8 +10,8 @@ struct trial { struct locktable table; struct locktable_record record; };
 /* As text, in which bench/worst keeps some: lines that start with # are for the reader, and all others are of these four kinds, in numbers.
      record KIND THREAD ARGUMENT ZERO
      clock TIME
-     thread ID PRIORITY TIME CURRENT_PRIORITY CURRENT_TIME    of each live thread
-     resource ID HOLDER WAITER..                              of each resource that is held, the waiters by arrival
+     thread ID PRIORITY TIME CURRENT_PRIORITY CURRENT_TIME REQUESTS RELEASES    of each live thread
+     resource ID HOLDER WAITER..                                                of each resource that is held, the waiters by arrival
    What they leave over is 0, as in a sound table. */
 void print_trial(const struct trial *s);
 

@@ -1,7 +1,8 @@
 /* A toy kernel around the lock table: three tasks, one lock, and the table's answer decides who runs.
    The journal task is slow and takes the lock first. Then the urgent draw task wants it and must wait. The label task is of middling
    urgency and needs no lock: without inheritance it would run ahead of journal, and so of draw. Here journal runs at draw's urgency.
-   Each accepted event goes to a log. `bench/run --example` builds and runs it. */
+   Each accepted event goes to a log, and when a task ends it is shown how often it took the lock. `bench/run --example` builds and runs
+   it. */
 #include <stdio.h>
 #include "locktable.h"
 
@@ -77,13 +78,21 @@ static int take_lock(uint8_t id)
     return event(LOCKTABLE_P, id, PRINTER, words);
 }
 
+/* What service staff want to know of a task is asked before its Exit, which clears it. */
+static int end_task(uint8_t id)
+{
+    struct locktable_thread_answer task = locktable_thread(&table, id);
+    printf("%-8s requests: %u, releases: %u\n", name(id), task.requests, task.releases);
+    return event(LOCKTABLE_EXIT, id, 0, "ends");
+}
+
 /* The task that the table named does the next thing in its script. */
 static int do_next(uint8_t id)
 {
     switch (tasks[id].script[tasks[id].next++]) {
     case TAKE: return take_lock(id);
     case GIVE: return event(LOCKTABLE_V, id, PRINTER, "gives the lock back");
-    case END: return event(LOCKTABLE_EXIT, id, 0, "ends");
+    case END: return end_task(id);
     default: return printf("%-8s works\n", name(id)) > 0;
     }
 }

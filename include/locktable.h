@@ -5,7 +5,7 @@
  * tells whether the event is accepted, and which thread is to run then. Whoever holds a resource is at least
  * as urgent as everybody who is blocked behind it.
  *
- * You keep the table, a `struct locktable` of 754 bytes, and lend it to each call. Begin with
+ * You keep the table, a `struct locktable` of 882 bytes, and lend it to each call. Begin with
  * locktable_empty; then call locktable_step for each event. Three queries read the table. locktable_log
  * writes an accepted event to a log, in a buffer that is yours too. examples/kernel.c is a toy kernel.
  *
@@ -52,8 +52,9 @@
  *     answers and makes of the table, in the terms that the specs of crates locks, queries, events,
  *     refusals and table define; in crates/log/src/lib.rt what it answers and makes of the log, in the
  *     terms that the specs of that crate define (Block, Card and Keep); in crates/demands that this is the
- *     paper's protocol, and what every call leaves on any table (specs/Fixed.antt): that an accepted event
- *     leaves a sound table, and that a count is at most 16, are there too.
+ *     paper's protocol, that the totals are those of the events, and what every call leaves on any table
+ *     (specs/Fixed.antt): that an accepted event leaves a sound table, and that a count is at most 16, are
+ *     there too.
  *   - Not proved are what a call needs, its time, which memory it touches, that there is no other state,
  *     how long a drain takes and the layout (the last two are below). bench/run tries them. */
 #ifndef LOCKTABLE_H
@@ -61,9 +62,10 @@
 
 /* Raised by one whenever something changes that a program could notice: a layout, a kind of event, a
  * number in an answer, what a call takes, does or answers, or which calls there are. Other words and
- * faster code leave it as it is. Version 2 has five kinds of event and six calls (version 1 had no log).
- * The archive has no such number in it: take both from the same tree. */
-#define LOCKTABLE_VERSION 2
+ * faster code leave it as it is. Version 3 has five kinds of event and six calls, and counts requests and
+ * releases (version 2 did not, and version 1 had no log). The archive has no such number in it: take both
+ * from the same tree. */
+#define LOCKTABLE_VERSION 3
 
 /* The calls go by the System V convention of x86-64, whatever the compiler's own one is: UEFI and Windows
  * have another, and so has -mabi=ms. A pointer to a call needs the same word in its type. A compiler that has
@@ -118,15 +120,21 @@ struct locktable {
     /* 32 places a resource: the holder, then who waits, by arrival */
     uint8_t queue[LOCKTABLE_RESOURCES * LOCKTABLE_THREADS];
     uint8_t length[LOCKTABLE_RESOURCES];         /* how many of a resource's places are taken */
+    /* totals since the thread's last Create: its requests (P) and releases (V) that were accepted */
+    uint16_t requests[LOCKTABLE_THREADS];
+    uint16_t releases[LOCKTABLE_THREADS];
 };
 
 /* A table is sound if all of this holds:
- *   - live is 0 or 1 for each thread, and where it is 0 the thread's other four numbers are 0 too;
+ *   - live is 0 or 1 for each thread, and where it is 0 the thread's other six numbers are 0 too;
  *   - each live thread's time is below the clock, and no two have the same;
  *   - no length is above 32, and the places that a length leaves over are 0;
  *   - only live threads stand in a queue, nobody twice in one, and nobody waits in more than one;
  *   - nobody waits for itself, be it through a chain of others;
- *   - the current precedence in the table is, for each live thread, the one that is described above.
+ *   - the current precedence in the table is, for each live thread, the one that is described above;
+ *   - each live thread's requests are its releases, plus 1 for each resource that it holds, plus 1 if it
+ *     waits;
+ *   - no thread's requests or releases are above the clock.
  * The empty table is sound, and an event that is accepted leaves a sound table. */
 
 /* EVENTS
@@ -158,6 +166,21 @@ enum locktable_kind {
 struct locktable_record {
     uint8_t kind, thread, argument, zero;
 };
+
+/* THE TOTALS
+ *
+ * Each thread has two, for whoever services the machine: how often did this task take a lock? A P adds 1 to
+ * the requests of its thread, whether that holds the resource then or waits. A V adds 1 to the releases of
+ * the thread that releases; who takes over has requested before, and its totals stay. Create begins both at
+ * 0, Exit clears them, Set leaves them, and so does every event that is refused. None can run over, since
+ * none is ever above the clock.
+ *
+ * What locktable_thread shows of them says:
+ *   - requests: how often the thread has asked for a lock since it was created;
+ *   - requests, less 1 if it waits: how often it got one;
+ *   - that less releases: how many it holds now.
+ * Which locks these were the log tells. Whoever wants the totals of a thread that ends, be it only to sleep,
+ * asks before its Exit. */
 
 /* REFUSALS
  *
@@ -204,8 +227,8 @@ enum locktable_number {
  * P only while LOCKTABLE_EVENTS_LEFT is above LOCKTABLE_DRAIN can always drain its table.
  *
  * Where nobody holds anything, nobody need end: note the live threads by their time, call locktable_empty,
- * and create each anew in that order, with its priority. The same thread runs then. (Tried, not proved, as
- * is all of this.) */
+ * and create each anew in that order, with its priority. The same thread runs then, and all totals begin at
+ * 0 again. (Tried, not proved, as is all of this.) */
 #define LOCKTABLE_DRAIN 79
 
 /* ANSWERS
@@ -229,6 +252,7 @@ struct locktable_thread_answer {
     uint8_t current_priority;
     uint16_t current_time;
     uint8_t waits_for;
+    uint16_t requests, releases;
 };
 
 struct locktable_resource_answer {
@@ -253,8 +277,8 @@ LOCKTABLE_ABI struct locktable_answer locktable_step(struct locktable *t, struct
  * Refused with LOCKTABLE_NOT_SOUND, and LOCKTABLE_NOBODY. */
 LOCKTABLE_ABI struct locktable_running_answer locktable_running(const struct locktable *t);
 
-/* A thread: 0 with its own priority, the time it was last set, its current precedence and the resource it
- * waits for, or LOCKTABLE_NOTHING.
+/* A thread: 0 with its own priority, the time it was last set, its current precedence, the resource it waits
+ * for, or LOCKTABLE_NOTHING, and how often it has requested and released since its last Create.
  * Refused with LOCKTABLE_NOT_SOUND, LOCKTABLE_NO_SUCH_THREAD or LOCKTABLE_NOT_LIVE, and zeros. */
 LOCKTABLE_ABI struct locktable_thread_answer locktable_thread(const struct locktable *t, uint8_t thread);
 
@@ -333,7 +357,7 @@ LOCKTABLE_ABI uint8_t locktable_log(uint8_t *log, size_t size, uint32_t so_far, 
 #define LOCKTABLE_SIZE(type, bytes) LOCKTABLE_SURE(sizeof(struct type) == (bytes), "size of struct " #type)
 #define LOCKTABLE_AT(type, field, offset) \
     LOCKTABLE_SURE(offsetof(struct type, field) == (offset), "place of " #field " in struct " #type)
-LOCKTABLE_SIZE(locktable, 754);
+LOCKTABLE_SIZE(locktable, 882);
 LOCKTABLE_AT(locktable, clock, 0);
 LOCKTABLE_AT(locktable, live, 2);
 LOCKTABLE_AT(locktable, priority, 34);
@@ -342,6 +366,8 @@ LOCKTABLE_AT(locktable, current_priority, 130);
 LOCKTABLE_AT(locktable, current_time, 162);
 LOCKTABLE_AT(locktable, queue, 226);
 LOCKTABLE_AT(locktable, length, 738);
+LOCKTABLE_AT(locktable, requests, 754);
+LOCKTABLE_AT(locktable, releases, 818);
 LOCKTABLE_SIZE(locktable_record, 4);
 LOCKTABLE_AT(locktable_record, thread, 1);
 LOCKTABLE_AT(locktable_record, argument, 2);
@@ -351,12 +377,14 @@ LOCKTABLE_AT(locktable_answer, running, 1);
 LOCKTABLE_AT(locktable_answer, count, 2);
 LOCKTABLE_SIZE(locktable_running_answer, 2);
 LOCKTABLE_AT(locktable_running_answer, running, 1);
-LOCKTABLE_SIZE(locktable_thread_answer, 10);
+LOCKTABLE_SIZE(locktable_thread_answer, 14);
 LOCKTABLE_AT(locktable_thread_answer, priority, 1);
 LOCKTABLE_AT(locktable_thread_answer, time, 2);
 LOCKTABLE_AT(locktable_thread_answer, current_priority, 4);
 LOCKTABLE_AT(locktable_thread_answer, current_time, 6);
 LOCKTABLE_AT(locktable_thread_answer, waits_for, 8);
+LOCKTABLE_AT(locktable_thread_answer, requests, 10);
+LOCKTABLE_AT(locktable_thread_answer, releases, 12);
 LOCKTABLE_SIZE(locktable_resource_answer, 3);
 LOCKTABLE_AT(locktable_resource_answer, holder, 1);
 LOCKTABLE_AT(locktable_resource_answer, waiters, 2);

@@ -36,7 +36,7 @@ pub record Accepted (t : Table) (e : Record) (queue lengths holders waits owns c
 
 -- the table with the slot s for th and these queues, one event later
 abbrev pub made-table : Table → Thread → Slot → List ℕ → List ℕ → Table
-made-table t th s queue lengths = table-of (t .clock + 1) (set (t .live) th (s .live)) (set (t .priority) th (s .priority)) (set (t .time) th (s .time)) (t .«current_priority») (t .«current_time») queue lengths
+made-table t th s queue lengths = table-of (t .clock + 1) (set (t .live) th (s .live)) (set (t .priority) th (s .priority)) (set (t .time) th (s .time)) (t .«current_priority») (t .«current_time») queue lengths (set (t .requests) th (s .requests)) (set (t .releases) th (s .releases))
 
 -- Its event, with `next` after a V, is done, and the slot of its thread and the count are these.
 pub record Applied (t : Table) (e : Record) (next : Option Thread) (queue lengths holders waits currents : List ℕ) (c : Change) : Type 0 where

@@ -1,6 +1,7 @@
 // The end of an accepted event: who runs, and the current precedences that are stored.
 ghost use mathlib.Core.Path.{_≡_};
 ghost use Prim.Native.Nat.{ℕ, _/_, _<_};
+ghost use lib.ListN.{length};
 ghost use Rattle.table.specs.declared.Table.{Table};
 ghost use Rattle.table.specs.Table.{at};
 ghost use Rattle.events.specs.code.Rows.{next-at};
@@ -67,38 +68,37 @@ fn to_store(current: &[u32; Table::THREADS], change: Change, running: u8) -> Out
     }
 }
 
-// The queues lent become those after the event, where whoever stands at place `next` follows at a V; all else that it changes is in the
-// result.
+// The queues lent become those after the event, where whoever stands at place `next` follows at a V, and so do the numbers of the current
+// precedences; all else that it changes is in the result.
 pub fn carry_out<'a>(
     queue: &'a mut [u8; Table::PLACES],
     lengths: &'a mut [u8; Table::RESOURCES],
     own: &'a [u32; Table::THREADS],
     waits: [u8; Table::THREADS],
     holders: [u8; Table::RESOURCES],
-    current: [u32; Table::THREADS],
+    current: &'a mut [u32; Table::THREADS],
     slot: Slot,
     clock: u16,
     e: Record,
     next: usize,
 ) -> Outcome
-    requires { ⌜ ((t : Table) × Accepted t e (now queue) (now lengths) holders waits (now own) current slot clock next) ⌝ }
-    ensures { λ o. ⌜ ((t : Table) → Accepted t e (now (queue .entry)) (now (lengths .entry)) holders waits (now (own .entry)) current slot clock next →
+    requires { ⌜ (length (now current) ≡ 32) × ((t : Table) × Accepted t e (now queue) (now lengths) holders waits (now own) (now current) slot clock next) ⌝ }
+    ensures { λ o. ⌜ ((t : Table) → Accepted t e (now (queue .entry)) (now (lengths .entry)) holders waits (now (own .entry)) (now (current .entry)) slot clock next →
         Carried t e (next-at (now (queue .entry)) (e .argument) next) (now (queue .exit)) (now (lengths .exit)) o) ⌝ }
 {
     let mut waiting = waits;
     let mut held = holders;
-    let mut values = current;
     let change = apply(
         queue,
         lengths,
         &mut held,
         &mut waiting,
-        &mut values,
+        current,
         own,
         slot,
         clock,
         e,
         next,
     );
-    to_store(&values, change, running(&waiting, &values))
+    to_store(current, change, running(&waiting, current))
 }

@@ -59,11 +59,11 @@ pub fn apply<'a>(
             set_anew(queue, lengths, holders, current, th, argument, clock),
         ),
         Record::P => Change::of(
-            slot,
+            slot.requested(),
             request(queue, lengths, holders, waits, current, th, argument),
         ),
         Record::V => Change::of(
-            slot,
+            slot.released(),
             release(
                 queue,
                 lengths,

@@ -6,20 +6,22 @@ use Rattle.protocol.specs.Sets.{_∈_}
 use Rattle.protocol.specs.Events.{Thread, State, threads, prec}
 use Rattle.protocol.specs.Graph.{Queues}
 use Rattle.protocol.specs.Schedule.{wq}
+use Rattle.protocol.specs.Totals.{requests, releases}
 use Rattle.protocol.specs.Rules.{valid}
 use Rattle.protocol.proofs.Kept.{Kept, valid-kept}
 use Rattle.table.specs.declared.Table.{Table}
-use Rattle.table.specs.Table.{live, own, queues}
+use Rattle.table.specs.Table.{at, live, own, queues}
 use Rattle.table.proofs.sound.Read.{sound-good}
 use Rattle.table.proofs.values.Values.{Good}
 use Rattle.events.proofs.kept.Stays.{Right}
 
--- the same clock, live threads, own precedences and queues
+-- the same clock, live threads, own precedences, queues and totals
 pub record Agrees (t : Table) (s : State) : Type 0 where
   pub clock : t .clock ≡ length s
   pub live : (th : Thread) → (th ∈ live t) ↔ (th ∈ threads s)
   pub own : (th : Thread) → th ∈ threads s → own t th ≡ prec th s
   pub queues : queues t ≡ wq s
+  pub totals : (th : Thread) → th ∈ threads s → (at (t .requests) th ≡ requests th s) × (at (t .releases) th ≡ releases th s)
 
 -- the table is sound and agrees with the state, which came about by the rules
 pub record Reached (t : Table) (s : State) : Type 0 where

@@ -4,10 +4,10 @@ use mathlib.Core.Path.{_≡_, ap, subst}
 use mathlib.Core.Logic.{inl, inr}
 use mathlib.Core.List.{List, [], _∷_, _++_, map}
 use native.Mathlib.Omega.{arith}
-use Rattle.protocol.specs.Sets.{_∈_, Names}
+use Rattle.protocol.specs.Sets.{_∈_, Names, Number}
 use Rattle.protocol.specs.Events.{Thread, Event, State, prec}
 use Rattle.protocol.specs.Schedule.{running}
-use Rattle.protocol.specs.Demand3.{others, Number}
+use Rattle.protocol.specs.Demand3.{others}
 use Rattle.protocol.proofs.Demand3.{Premises, first-sentence, second-sentence, others-number}
 use Rattle.protocol.proofs.Theorems.{one-cprec}
 use Rattle.table.specs.declared.Table.{Table}

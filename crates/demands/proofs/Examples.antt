@@ -1,13 +1,14 @@
--- The edges that document 01 marks *, computed from the definitions: records in, answers out. Assumes nothing.
+-- The edges that document 01 marks *, computed from the definitions: records in, answers out; and totals on the first of them. Assumes nothing.
 use Prim.Native.Nat.{ℕ}
 use mathlib.Core.Path.{_≡_, refl}
 use mathlib.Core.List.{List, [], _∷_, map}
 use Rattle.table.specs.declared.Table.{Table}
 use Rattle.table.specs.Table.{at, empty}
-use Rattle.table.specs.Compute.{all-below, each, member, first-or-32, differ, find-below, is-live, holder, is-waiting, waits-for, blocker, depends, is-higher, highest-behind, current, is-ready, leader, runner, ends, same, dead-zero, spare-zero, time-right, queue-right, waits-once, current-right, is-sound}
+use Rattle.table.specs.Compute.{all-below, each, member, first-or-32, differ, find-below, is-live, holder, is-waiting, waits-for, blocker, depends, is-higher, highest-behind, current, is-ready, leader, runner, ends, same, dead-zero, spare-zero, time-right, queue-right, waits-once, held-below, unreleased, balance-right, totals-low, current-right, is-sound}
 use Rattle.refusals.specs.Refusals.{malformed, leads, holds-any, unsound, by-record, by-thread, by-queues, refusals, lowest}
 use Rattle.events.specs.Events.{tabulate, settled, with-slot, with-queue, changed, highest-own, heir, named, event-of}
 use Rattle.events.specs.Count.{walk, request-count, release-count, count}
+use Rattle.queries.specs.Queries.{thread-refusals, thread-told, thread-answer}
 use Rattle.locks.specs.Answers.{accepted, refused, carried-out, answerOf}
 
 -- kind, thread, argument, fourth byte
@@ -103,5 +104,20 @@ marked =
 
 -- each list of records gives its outcome
 pub as-marked : map (λ c. outcome empty (c .input)) marked ≡ map (λ c. c .wanted) marked
-unfolding all-below each member first-or-32 differ find-below is-live holder is-waiting waits-for blocker depends is-higher highest-behind current is-ready leader runner ends same dead-zero spare-zero time-right queue-right waits-once current-right is-sound malformed leads holds-any unsound by-record by-thread by-queues refusals lowest tabulate settled with-slot with-queue changed highest-own heir named event-of walk request-count release-count count accepted refused carried-out answerOf
+unfolding all-below each member first-or-32 differ find-below is-live holder is-waiting waits-for blocker depends is-higher highest-behind current is-ready leader runner ends same dead-zero spare-zero time-right queue-right waits-once held-below unreleased balance-right totals-low current-right is-sound malformed leads holds-any unsound by-record by-thread by-queues refusals lowest tabulate settled with-slot with-queue changed highest-own heir named event-of walk request-count release-count count accepted refused carried-out answerOf
 as-marked = refl
+
+-- the table after the records
+abbrev pub left : Table → List Bytes → Table
+left t [] = t
+left t (bytes k x a z ∷ bs) = left (answerOf t (record { kind = k; thread = x; argument = a; zero = z }) .table) bs
+
+-- requests and releases, as the thread query tells them
+abbrev pub totals : Table → ℕ → ℕ × ℕ
+totals t th = let a = thread-answer t th in (a .requests, a .releases)
+
+-- Document 02, K2, on the first eight of the twelve records: thread 1 took the lock and gave it back, its second request is refused and doesn't count; thread 3 waited and holds it now; thread 2 has
+-- done neither.
+pub as-counted : map (totals (left empty (bytes 1 1 10 0 ∷ bytes 4 1 0 0 ∷ bytes 1 3 30 0 ∷ bytes 4 3 0 0 ∷ bytes 1 2 20 0 ∷ bytes 5 2 0 0 ∷ bytes 4 1 0 0 ∷ bytes 5 1 0 0 ∷ []))) (1 ∷ (2 ∷ (3 ∷ []))) ≡ (1, 1) ∷ ((0, 0) ∷ ((1, 0) ∷ []))
+unfolding all-below each member first-or-32 differ find-below is-live holder is-waiting waits-for blocker depends is-higher highest-behind current is-ready leader runner ends same dead-zero spare-zero time-right queue-right waits-once held-below unreleased balance-right totals-low current-right is-sound malformed leads holds-any unsound by-record by-thread by-queues refusals lowest tabulate settled with-slot with-queue changed highest-own heir named event-of walk request-count release-count count accepted refused carried-out answerOf thread-refusals thread-told thread-answer
+as-counted = refl

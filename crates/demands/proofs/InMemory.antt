@@ -53,6 +53,8 @@ module _ (t : Table) (r : Right t) where
     current-time = record { size = r .0 .current-time-size; in-range = λ i. stored-fits i .1 };
     queue = record { size = r .0 .queue-size; in-range = queue-fits };
     length = record { size = r .0 .length-size; in-range = λ cs. omega (arith, r .1 .bare .queues-right .lengths cs) };
+    requests = record { size = r .0 .requests-size; in-range = λ i. omega (arith, r .1 .totals .low i .0, r .1 .bare .clock) };
+    releases = record { size = r .0 .releases-size; in-range = λ i. omega (arith, r .1 .totals .low i .1, r .1 .bare .clock) };
   }
 
 -- the arrays of any table have their sizes
@@ -65,4 +67,6 @@ any-shape a = record {
   current-time-size = a .current-time .size;
   queue-size = a .queue .size;
   length-size = a .length .size;
+  requests-size = a .requests .size;
+  releases-size = a .releases .size;
 }

@@ -10,6 +10,7 @@ pub mod Rules
 pub mod InMemory
 pub mod Numbers
 pub mod Reached
+pub mod Balance
 pub mod Counted
 -- The demands, of any functions that do what the contracts say; and that there are such.
 pub mod Demand1

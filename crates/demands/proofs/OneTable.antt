@@ -48,7 +48,7 @@ module _ {s : State} (v : valid s) (t u : Table) (a : Any-table t) (b : Any-tabl
     where
       here : th ∈ threads s → (slot t th ≡ slot u th) × (stored t th ≡ stored u th)
       here l = let same : own t th ≡ own u th = m .own-is th l ∙ sym (n .own-is th l) in (
-        λ i. record { live = (m .live-are th .1 l ∙ sym (n .live-are th .1 l)) i; priority = same i .0; time = same i .1 },
+        λ i. record { live = (m .live-are th .1 l ∙ sym (n .live-are th .1 l)) i; priority = same i .0; time = same i .1; requests = (m .requests-are th l ∙ sym (n .requests-are th l)) i; releases = (m .releases-are th l ∙ sym (n .releases-are th l)) i },
         one-cprec s v th (stored t th) (stored u th) (m .current-is th l) (n .current-is th l),
       )
 
@@ -77,6 +77,8 @@ module _ {s : State} (v : valid s) (t u : Table) (a : Any-table t) (b : Any-tabl
     «current_time» = same-array (a .current-time) (b .current-time) (λ th h j. same-slot th .1 j .1) i;
     queue = same-array (a .queue) (b .queue) (λ k h. subst (λ (x : ℕ). at (t .queue) x ≡ at (u .queue) x) (omega arith) (same-place (k / 32) (k % 32) (omega arith) (omega arith))) i;
     length = same-array (a .length) (b .length) (λ cs h. length-is t a p cs h ∙ ap length (same-queue cs) ∙ sym (length-is u b q cs h)) i;
+    requests = same-array (a .requests) (b .requests) (λ th h j. same-slot th .0 j .requests) i;
+    releases = same-array (a .releases) (b .releases) (λ th h j. same-slot th .0 j .releases) i;
   }
 
 -- where one number at most is in M, one number names what is in it
@@ -112,6 +114,8 @@ module _ {s : State} (v : valid s) where
     «current_priority» = current i .0;
     «current_time» = current i .1;
     «waits_for» = one-waited th (a .«waits_for») (b .«waits_for») (p .waits-for) (q .waits-for) i;
+    requests = (p .requests-are ∙ sym (q .requests-are)) i;
+    releases = (p .releases-are ∙ sym (q .releases-are)) i;
   }
     where
       own-same : _≡_ {A = Precedence} (a .priority, a .time) (b .priority, b .time)

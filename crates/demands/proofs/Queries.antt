@@ -105,6 +105,8 @@ module _ {t : Table} {s : State} (r : Reached t s) where
     own-is = shows r .own-is th l;
     current-is = subst (cprec s th) (sym (current-stored t (r .right .0) (r .right .1) th here)) (shows r .current-is th l);
     waits-for = names-waited th;
+    requests-are = shows r .requests-are th l;
+    releases-are = shows r .releases-are th l;
   })
 
   -- the resource query tells the holder and the number of waiters

@@ -33,8 +33,8 @@ use Rattle.demands.proofs.Rules.{permits-steps}
 -- the empty table, before any event
 pub start-reached : Reached empty []
 start-reached = record {
-  right = (record { live-size = refl; priority-size = refl; time-size = refl; current-priority-size = refl; current-time-size = refl; queue-size = refl; length-size = refl }, empty-sound);
-  agrees = record { clock = refl; live = λ th. ((λ l. absurd (nobody th l)), absurd); own = λ th l. absurd l; queues = fun-ext no-queue };
+  right = (record { live-size = refl; priority-size = refl; time-size = refl; current-priority-size = refl; current-time-size = refl; queue-size = refl; length-size = refl; requests-size = refl; releases-size = refl }, empty-sound);
+  agrees = record { clock = refl; live = λ th. ((λ l. absurd (nobody th l)), absurd); own = λ th l. absurd l; queues = fun-ext no-queue; totals = λ th l. absurd l };
   by-rules = start;
 }
 

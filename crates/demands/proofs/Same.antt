@@ -88,4 +88,6 @@ module _ {t : Table} {s : State} (r : Reached t s) where
     own-is = r .agrees .own;
     queues-are = λ cs. ap (λ (q : Queues). q cs) (r .agrees .queues);
     current-is = λ th l. same-cprec th l (table.stored t th) .0 (r .right .1 .current th (r .agrees .live th .1 l));
+    requests-are = λ th l. r .agrees .totals th l .0;
+    releases-are = λ th l. r .agrees .totals th l .1;
   }

@@ -75,8 +75,10 @@ table-is t = let bytes = array w8 255 byte in let words = array w16 65535 word i
     current-time = words 32 (t .«current_time») .0 (o .1 .1 .1 .1 .1 .0);
     queue = bytes 512 (t .queue) .0 (o .1 .1 .1 .1 .1 .1 .0);
     length = bytes 16 (t .length) .0 (o .1 .1 .1 .1 .1 .1 .1 .0);
+    requests = words 32 (t .requests) .0 (o .1 .1 .1 .1 .1 .1 .1 .1 .0);
+    releases = words 32 (t .releases) .0 (o .1 .1 .1 .1 .1 .1 .1 .1 .1 .0);
   },
-  λ a. owes table.the-type table-laws.the-laws t ((refl, word (t .clock) .1 (a .clock)), (bytes 32 (t .live) .1 (a .live), (bytes 32 (t .priority) .1 (a .priority), (words 32 (t .time) .1 (a .time), (bytes 32 (t .«current_priority») .1 (a .current-priority), (words 32 (t .«current_time») .1 (a .current-time), (bytes 512 (t .queue) .1 (a .queue), (bytes 16 (t .length) .1 (a .length), tt)))))))),
+  λ a. owes table.the-type table-laws.the-laws t ((refl, word (t .clock) .1 (a .clock)), (bytes 32 (t .live) .1 (a .live), (bytes 32 (t .priority) .1 (a .priority), (words 32 (t .time) .1 (a .time), (bytes 32 (t .«current_priority») .1 (a .current-priority), (words 32 (t .«current_time») .1 (a .current-time), (bytes 512 (t .queue) .1 (a .queue), (bytes 16 (t .length) .1 (a .length), (words 32 (t .requests) .1 (a .requests), (words 32 (t .releases) .1 (a .releases), tt)))))))))),
 )
 
 -- and so for records

@@ -13,7 +13,7 @@ use Rattle.protocol.specs.Demand3.{Moment, holds-or-waits, calls-of-others}
 use Rattle.protocol.proofs.Witness.{s, s′, s₂, s₂′, live, highest, spared, number, few}
 use Rattle.table.specs.declared.Table.{Table}
 use Rattle.table.specs.Table.{empty, stored}
-use Rattle.table.specs.Compute.{all-below, each, member, first-or-32, differ, find-below, is-live, holder, is-waiting, waits-for, blocker, depends, is-higher, highest-behind, current, is-ready, leader, runner, ends, same, dead-zero, spare-zero, time-right, queue-right, waits-once, current-right, is-sound}
+use Rattle.table.specs.Compute.{all-below, each, member, first-or-32, differ, find-below, is-live, holder, is-waiting, waits-for, blocker, depends, is-higher, highest-behind, current, is-ready, leader, runner, ends, same, dead-zero, spare-zero, time-right, queue-right, waits-once, held-below, unreleased, balance-right, totals-low, current-right, is-sound}
 use Rattle.refusals.specs.declared.Record.{Record}
 use Rattle.refusals.specs.Refusals.{malformed, leads, holds-any, unsound, by-record, by-thread, by-queues, refusals, lowest}
 use Rattle.events.specs.Events.{tabulate, settled, with-slot, with-queue, changed, highest-own, heir, named, event-of}
@@ -120,7 +120,7 @@ ks₂ = event (of 4 0 1) ∷ event (of 3 0 2) ∷ event (of 5 0 0) ∷ event (of
 
 -- Worked out from the definitions: in the first thread 2 runs at the end, and stores thread 1's own precedence; in the second all is accepted.
 worked-out : _≡_ {A = Ending × List ℕ} (after (play (before-last ++ ks)), play ks₂ .1) (record { numbered = numbers; by-query = 2; by-answer = 2; stored-of-2 = (5, 4) }, 0 ∷ 0 ∷ 0 ∷ 0 ∷ 0 ∷ [])
-unfolding all-below each member first-or-32 differ find-below is-live holder is-waiting waits-for blocker depends is-higher highest-behind current is-ready leader runner ends same dead-zero spare-zero time-right queue-right waits-once current-right is-sound malformed leads holds-any unsound by-record by-thread by-queues refusals lowest tabulate settled with-slot with-queue changed highest-own heir named event-of walk request-count release-count count done turned-away carried-out answerOf running-refusals running-answer noted onward play ended after
+unfolding all-below each member first-or-32 differ find-below is-live holder is-waiting waits-for blocker depends is-higher highest-behind current is-ready leader runner ends same dead-zero spare-zero time-right queue-right waits-once held-below unreleased balance-right totals-low current-right is-sound malformed leads holds-any unsound by-record by-thread by-queues refusals lowest tabulate settled with-slot with-queue changed highest-own heir named event-of walk request-count release-count count done turned-away carried-out answerOf running-refusals running-answer noted onward play ended after
 worked-out = refl
 
 -- The premises are met.

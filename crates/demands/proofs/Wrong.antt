@@ -1,18 +1,19 @@
--- What the statements rule out: the wrong schedulers of document 01, "How much each call's statement says". Assumes nothing.
-use Prim.Native.Nat.{ℕ, _<_}
+-- What the statements rule out: the wrong schedulers of document 01, "How much each call's statement says", and two that count no requests (document 02, K2). Assumes nothing.
+use Prim.Native.Nat.{ℕ, _≤_, _<_}
 use mathlib.Core.Path.{_≡_, refl, sym, ap, subst, _∙_}
 use mathlib.Core.Logic.{_≢_, inl, inr, ⊎-elim}
 use mathlib.Core.List.{[], _∷_}
 use native.Mathlib.Decide.{ℕ-discrete}
 use native.Mathlib.Omega.{arith}
 use borrow.Author.Tests.{le-ltb}
-use Rattle.protocol.specs.Sets.{Names}
-use Rattle.protocol.specs.Events.{Create, State}
-use Rattle.protocol.specs.Schedule.{running as runs}
-use Rattle.protocol.specs.Rules.{step, create as create-step}
+use Rattle.protocol.specs.Sets.{_∈_, Names}
+use Rattle.protocol.specs.Events.{Create, P, State}
+use Rattle.protocol.specs.Graph.{T, C, _⁺, edge, then}
+use Rattle.protocol.specs.Schedule.{RAG, running as runs}
+use Rattle.protocol.specs.Rules.{step, create as create-step, request as request-step}
 use Rattle.protocol.proofs.Theorems.{some-runs}
 use Rattle.table.specs.declared.Table.{Table}
-use Rattle.table.specs.Table.{empty}
+use Rattle.table.specs.Table.{at, empty}
 use Rattle.table.specs.Sound.{Sound}
 use Rattle.refusals.specs.declared.Record.{Record}
 use Rattle.refusals.specs.Refusals.{malformed, by-record, lowest}
@@ -22,7 +23,7 @@ use Rattle.locks.specs.Answers.{answerOf}
 use Rattle.demands.specs.Memory.{Any-table, Any-record}
 use Rattle.demands.specs.Calls.{Calls}
 use Rattle.demands.specs.Stated.{As-stated}
-use Rattle.demands.specs.Runs.{Query, running, thread, resource, event, ask, Any-call, table-after, number-of, Writes, create, History, none-yet, accepted, asked, Well-formed}
+use Rattle.demands.specs.Runs.{Query, running, thread, resource, event, ask, Any-call, table-after, number-of, Writes, create, request, History, none-yet, accepted, asked, Well-formed}
 use Rattle.demands.specs.Counted.{Counts, create as create-count}
 use Rattle.demands.specs.Demand1.{Demand-1}
 use Rattle.demands.specs.Demand2.{After, Demand-2}
@@ -67,6 +68,13 @@ Invents-a-count c = (t : Table) × (e : Record) × Any-table t × Any-record e �
 
 abbrev pub Counts-always : Calls → ℕ → Type 0
 Counts-always c n = (t : Table) (e : Record) → Any-table t → Any-record e → c .step t e .answer .count ≡ n
+
+-- One that never counts a request of an event's own thread, or whose thread query never tells of one, does not meet demand 2.
+abbrev pub Counts-no-request : Calls → Type 0
+Counts-no-request c = (t : Table) (e : Record) → Any-table t → Any-record e → at (c .step t e .table .requests) (e .thread) ≡ 0
+
+abbrev pub Tells-no-request : Calls → Type 0
+Tells-no-request c = (t : Table) (th : ℕ) → Any-table t → th ≤ 255 → c .thread t th .answer .requests ≡ 0
 
 -- How each fails. The empty table is one, the first Create of x is well-formed, and the rules admit it.
 
@@ -198,3 +206,40 @@ counts-always c n wrong d₁ d = absurd (omega (arith, wrong t₀ (creates 0) (a
 
     counts-1 : {s : State} {k : ℕ} → Counts s (Create 0 0) k → k ≡ 1
     counts-1 create-count = refl
+
+-- thread 0 requests resource 0
+requests-0 : Record
+requests-0 = record { kind = 4; thread = 0; argument = 0; zero = 0 }
+
+any-request : Any-record requests-0
+unfolding requests-0
+any-request = record { kind = omega arith; thread = omega arith; argument = omega arith; zero = omega arith }
+
+-- after the first Create of thread 0 that is accepted, and its total is 1
+module _ (c : Calls) (d : Demand-2 c) where
+  one-request : After c empty (event requests-0 ∷ (event (creates 0) ∷ [])) (P 0 0 ∷ (Create 0 0 ∷ []))
+  unfolding requests-0 lowest by-record malformed
+  one-request = after d memory (any-request, (any 0 (omega arith), tt)) (accepted (first-history c d 0 (omega arith)) admitted (request refl))
+    where
+      now : After c empty (event (creates 0) ∷ []) (Create 0 0 ∷ [])
+      now = after-first c d 0 (omega arith)
+
+      it-runs : 0 ∈ runs (Create 0 0 ∷ [])
+      it-runs = let k = some-runs (Create 0 0 ∷ []) (now .by-rules) 0 (inl refl) in subst (λ (x : ℕ). x ∈ runs (Create 0 0 ∷ [])) (⊎-elim (λ e. e) absurd (k .1 .among .0)) (k .1)
+
+      no-way : ¬ (RAG (Create 0 0 ∷ []) ⁺) (C 0) (T 0)
+      no-way (edge k) = k .0
+      no-way (then {b = T x} k w) = k .0
+      no-way (then {b = C x} k w) = k
+
+      admitted : number-of c empty (event (creates 0) ∷ []) requests-0 ≡ 0
+      admitted = now .admits requests-0 any-request (well-formed requests-0 .0 refl) (omega arith) .1 (P 0 0) (request refl) .1 (request-step it-runs no-way)
+
+-- at that request
+pub counts-no-request : (c : Calls) → Counts-no-request c → ¬ Demand-2 c
+unfolding requests-0
+counts-no-request c wrong d = absurd (omega (arith, one-request c d .shows .requests-are 0 (inl refl), wrong (table-after c empty (event (creates 0) ∷ [])) requests-0 (after-first c d 0 (omega arith) .memory) any-request))
+
+-- at the query after it
+pub tells-no-request : (c : Calls) → Tells-no-request c → ¬ Demand-2 c
+tells-no-request c wrong d = let now = one-request c d in absurd (omega (arith, now .thread-query 0 (inl refl) .requests-are, wrong (table-after c empty (event requests-0 ∷ (event (creates 0) ∷ []))) 0 (now .memory) (omega arith)))

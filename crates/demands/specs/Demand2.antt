@@ -1,6 +1,6 @@
 -- Demand 2. "From the empty table on, and up to 65,535 accepted events, a well-formed event is accepted exactly when the paper's rules admit it, and the
 -- live threads, queues, current precedences and running thread are then the ones the paper's definitions give for the accepted events, with one fixed
--- choice of the next holder." Assumes nothing.
+-- choice of the next holder." Document 02, K2: "Demand 2 reads the totals from the events." Assumes nothing.
 use Prim.Native.Nat.{_<_}
 use mathlib.Core.Path.{_≡_}
 use mathlib.Core.Logic.{_↔_}
@@ -28,7 +28,7 @@ pub record After (c : Calls) (t : Table) (ks : List Call) (s : State) : Type 0 w
   -- the table is sound and a value of its type: so what the paper does not speak of, dead slots, spare places and sizes, is said too, and that at most 65,535 events are accepted
   pub sound : Sound (table-after c t ks)
   pub memory : Any-table (table-after c t ks)
-  -- the table is what the paper's definitions give for them
+  -- the table is what the paper's definitions give for them, and its totals are what they say
   pub shows : Shows (table-after c t ks) s
   -- and so are the queries' answers; those that are refused are demand 1's
   pub running-query : Running-told s (c .running (table-after c t ks) .answer)

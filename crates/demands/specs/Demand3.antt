@@ -7,10 +7,10 @@ use Prim.Native.Nat.{ℕ, _*_, _≤_, _<_}
 use mathlib.Core.Path.{_≡_}
 use mathlib.Core.Logic.{_≢_}
 use mathlib.Core.List.{List, _∷_, _++_, map}
-use Rattle.protocol.specs.Sets.{_∈_, set}
+use Rattle.protocol.specs.Sets.{_∈_, set, Number}
 use Rattle.protocol.specs.Events.{Thread, Event, State, threads, priority, prec, _≼_}
 use Rattle.protocol.specs.Schedule.{cprec}
-use Rattle.protocol.specs.Demand3.{Moment, holds-or-waits, spares, calls, calls-of-others, others, Number, Until}
+use Rattle.protocol.specs.Demand3.{Moment, holds-or-waits, spares, calls, calls-of-others, others, Until}
 use Rattle.table.specs.declared.Table.{Table}
 use Rattle.table.specs.Table.{stored}
 use Rattle.refusals.specs.declared.Record.{Record}

@@ -12,7 +12,7 @@ pub record Array (n highest : ℕ) (xs : List ℕ) : Type 0 where
   pub size : length xs ≡ n
   pub in-range : (i : ℕ) → at xs i ≤ highest
 
--- any table: whatever 754 bytes of memory can hold, sound or not
+-- any table: whatever 882 bytes of memory can hold, sound or not
 pub record Any-table (t : Table) : Type 0 where
   pub clock : t .clock ≤ 65535
   pub live : Array 32 255 (t .live)
@@ -22,6 +22,8 @@ pub record Any-table (t : Table) : Type 0 where
   pub current-time : Array 32 65535 (t .«current_time»)
   pub queue : Array 512 255 (t .queue)
   pub length : Array 16 255 (t .length)
+  pub requests : Array 32 65535 (t .requests)
+  pub releases : Array 32 65535 (t .releases)
 
 -- any record: four bytes
 pub record Any-record (e : Record) : Type 0 where

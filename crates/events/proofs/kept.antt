@@ -2,6 +2,7 @@
 pub mod Shapes
 pub mod Slots
 pub mod Queues
+pub mod Totals
 pub mod Tabulate
 pub mod Unstored
 pub mod Settled

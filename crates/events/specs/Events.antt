@@ -1,4 +1,4 @@
--- Document 01, "Accepted events": the table after each. Assumes nothing.
+-- Document 01, "Accepted events": the table after each, with document 02's totals. Assumes nothing.
 use Prim.Native.Nat.{ℕ, zero, suc, _+_, _*_, _-_}
 use mathlib.Core.Bool.{cond}
 use mathlib.Core.Option.{Option, none, some}
@@ -10,7 +10,7 @@ use Rattle.protocol.specs.Schedule.{release}
 use Rattle.table.specs.declared.Table.{Table}
 use Rattle.table.specs.declared.Slot.{Slot}
 use Rattle.table.specs.Table.{own, queues, slot, dead-slot}
-use Rattle.table.specs.Slots.{fresh-slot, set-slot}
+use Rattle.table.specs.Slots.{fresh-slot, set-slot, requested-slot, released-slot}
 use Rattle.table.specs.Compute.{is-live, is-higher, current}
 use Rattle.refusals.specs.declared.Record.{Record}
 
@@ -30,6 +30,8 @@ settled t = record {
   «current_time» = tabulate 32 (λ th. let p = current t th .1 in cond (is-live t th) p 0);
   queue = t .queue;
   length = t .length;
+  requests = t .requests;
+  releases = t .releases;
 }
 
 -- All accepted events add 1 to the clock.
@@ -43,6 +45,8 @@ later t = record {
   «current_time» = t .«current_time»;
   queue = t .queue;
   length = t .length;
+  requests = t .requests;
+  releases = t .releases;
 }
 
 -- th has the slot s
@@ -56,6 +60,8 @@ with-slot t th s = record {
   «current_time» = t .«current_time»;
   queue = t .queue;
   length = t .length;
+  requests = set (t .requests) th (s .requests);
+  releases = set (t .releases) th (s .releases);
 }
 
 -- cs has the queue q, places beyond it zero
@@ -69,20 +75,32 @@ with-queue t cs q = record {
   «current_time» = t .«current_time»;
   queue = take (cs * 32) (t .queue) ++ (q ++ (replicate (32 - length q) 0 ++ drop (cs * 32 + 32) (t .queue)));
   length = set (t .length) cs (length q);
+  requests = t .requests;
+  releases = t .releases;
 }
 
--- The table after an event, but for its stored current precedences. Who follows at a V stands in the event.
-unfoldable pub changed : Table → Event → Table
--- Create t, priority: t becomes live.
-changed t (Create th prio) = later (with-slot t th (fresh-slot prio (t .clock)))
--- Exit t: the slot becomes zero.
-changed t (Exit th) = later (with-slot t th dead-slot)
--- Set t, priority: new own priority, and time last set is the event's time.
-changed t (Set th prio) = later (with-slot t th (set-slot (slot t th) prio (t .clock)))
--- P t, r: t joins the end of r's queue.
-changed t (P th cs) = later (with-queue t cs (queues t cs ++ (th ∷ [])))
--- V t, r: t leaves the head. If others wait, the one that follows becomes the head and the rest stay in order.
-changed t («V» th cs next) = later (with-queue t cs (release (queues t cs) next))
+-- the threads have these totals
+abbrev pub with-totals : Table → List ℕ → List ℕ → Table
+with-totals t requests releases = record {
+  clock = t .clock;
+  live = t .live;
+  priority = t .priority;
+  time = t .time;
+  «current_priority» = t .«current_priority»;
+  «current_time» = t .«current_time»;
+  queue = t .queue;
+  length = t .length;
+  requests = requests;
+  releases = releases;
+}
+
+-- th has requested once more
+abbrev pub one-request-more : Table → Thread → Table
+one-request-more t th = with-totals t (set (t .requests) th (requested-slot (slot t th) .requests)) (t .releases)
+
+-- th has released once more
+abbrev pub one-release-more : Table → Thread → Table
+one-release-more t th = with-totals t (t .requests) (set (t .releases) th (released-slot (slot t th) .releases))
 
 -- of th and the others, the one with the highest own precedence
 unfoldable pub highest-own : Table → Thread → List Thread → Thread
@@ -94,6 +112,19 @@ unfoldable pub heir : Table → List Thread → Option Thread
 heir t [] = none
 heir t (holder ∷ []) = none
 heir t (holder ∷ (x ∷ xs)) = some (highest-own t x xs)
+
+-- The table after an event, but for its stored current precedences. Who follows at a V stands in the event.
+unfoldable pub changed : Table → Event → Table
+-- Create t, priority: t becomes live.
+changed t (Create th prio) = later (with-slot t th (fresh-slot prio (t .clock)))
+-- Exit t: the slot becomes zero.
+changed t (Exit th) = later (with-slot t th dead-slot)
+-- Set t, priority: new own priority, and time last set is the event's time.
+changed t (Set th prio) = later (with-slot t th (set-slot (slot t th) prio (t .clock)))
+-- P t, r: t has requested once more, and joins the end of r's queue.
+changed t (P th cs) = later (with-queue (one-request-more t th) cs (queues t cs ++ (th ∷ [])))
+-- V t, r: t has released once more, and leaves the head. If others wait, the one that follows becomes the head and the rest stay in order.
+changed t («V» th cs next) = later (with-queue (one-release-more t th) cs (release (queues t cs) next))
 
 -- the event that a record names, by its kind: 1 Create, 2 Exit, 3 Set, 4 P, 5 V, at which `next` follows; no other kind names one
 unfoldable pub named : Record → Option Thread → Option Event

@@ -27,7 +27,7 @@ use Rattle.locks.proofs.Answered.{not-sound, turned-down, let-through}
 
 module _ (t : Table) (e : Record) (a : Answer) where
   -- a table that isn't sound
-  pub judged-unsound : {c : Checked} → Checked-right t c → c .sound ≡ false → a ≡ record { number = 1; running = 32; count = 0 } → Judged t e (c .sound) a
+  pub judged-unsound : {owns currents : List ℕ} {c : Checked} → Checked-right t owns currents c → c .sound ≡ false → a ≡ record { number = 1; running = 32; count = 0 } → Judged t e (c .sound) a
   judged-unsound k s q = record {
     stands = λ n. rw q (sym (not-sound t e (sym (sound-is t k) ∙ s)));
     passes = λ z. let w : a .number ≡ 1 = ap (λ (x : Answer). x .number) q in absurd (omega arith);

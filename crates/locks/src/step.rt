@@ -10,6 +10,7 @@ use release::heir::follower;
 use soundness::check::check;
 use table::Slot;
 use table::Table;
+use table::numbers::numbers;
 use table::queues::wide;
 
 // The table given is changed where it stands, and the result is made once, at the end. Of its arrays only one at a time can be lent to be
@@ -17,6 +18,8 @@ use table::queues::wide;
 pub fn step(mut t: Table, e: Record) -> Done
     ensures { λ d. ⌜ d ≡ answerOf t e ⌝ }
 {
+    let own = numbers(&t.live, &t.priority, &t.time);
+    let mut current = numbers(&t.live, &t.current_priority, &t.current_time);
     let c = check(
         t.clock,
         &t.live,
@@ -26,24 +29,34 @@ pub fn step(mut t: Table, e: Record) -> Done
         &t.current_time,
         &t.queue,
         &t.length,
+        &t.requests,
+        &t.releases,
+        &own,
+        &current,
     );
     let mut lengths = t.length;
     let mut answer = reply(1, Table::NOBODY, 0);
     if c.sound {
-        answer = judge(t.clock, &t.live, &c.waits, &c.holders, &c.current, e);
+        answer = judge(t.clock, &t.live, &c.waits, &c.holders, &current, e);
     }
     if answer.number == 0 {
         let i = wide(e.thread);
-        let before = Slot::of(t.live[i], t.priority[i], t.time[i]);
-        let next = follower(&t.queue, &t.length, &c.own, e);
+        let before = Slot::of(
+            t.live[i],
+            t.priority[i],
+            t.time[i],
+            t.requests[i],
+            t.releases[i],
+        );
+        let next = follower(&t.queue, &t.length, &own, e);
         let clock = t.clock;
         let o = carry_out(
             &mut t.queue,
             &mut lengths,
-            &c.own,
+            &own,
             c.waits,
             c.holders,
-            c.current,
+            &mut current,
             before,
             clock,
             e,
@@ -56,6 +69,8 @@ pub fn step(mut t: Table, e: Record) -> Done
         t.live[i] = slot.live;
         t.priority[i] = slot.priority;
         t.time[i] = slot.time;
+        t.requests[i] = slot.requests;
+        t.releases[i] = slot.releases;
         t.current_priority = priority;
         t.current_time = time;
         t.length = lengths;

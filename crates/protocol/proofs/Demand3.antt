@@ -9,12 +9,12 @@ use native.Mathlib.Decide.{ℕ-discrete}
 use native.Mathlib.Omega.{arith}
 use lib.Dec.{eqb}
 use borrow.Author.Tests.{eq-eqb, ne-eqb}
-use Rattle.protocol.specs.Sets.{_∈_, images, set, Max}
+use Rattle.protocol.specs.Sets.{_∈_, images, set, Max, Number}
 use Rattle.protocol.specs.Events.{Thread, Event, Create, Exit, Set, P, «V», State, threads, priority, Precedence, prec, _≼_}
 use Rattle.protocol.specs.Schedule.{wq, cprec, running}
 use Rattle.protocol.specs.Notions.{detached}
 use Rattle.protocol.specs.Rules.{valid}
-use Rattle.protocol.specs.Demand3.{Moment, now, before, holds-or-waits, spares, calls-by, calls, calls-of-others, others, Number, Until, none-yet, so-far, over}
+use Rattle.protocol.specs.Demand3.{Moment, now, before, holds-or-waits, spares, calls-by, calls, calls-of-others, others, Until, none-yet, so-far, over}
 use Rattle.protocol.proofs.Kept.{Kept, valid-kept, valid-before, last-step, caller, caller-runs}
 use Rattle.protocol.proofs.Finite.{size, live-below, dec-attached, attached-in}
 use Rattle.protocol.proofs.Spared.{Stands, capped, runs-at, idle-not-running, idle-stays, still-stands}

@@ -1,4 +1,4 @@
--- Laws, from the bottom up; the theorems that the documents name are in Theorems, Edges, Changes and Demand3.
+-- Laws, from the bottom up; the theorems that the documents name are in Theorems, Edges, Changes, Balance and Demand3.
 pub mod Decide
 pub mod Order
 pub mod Highest
@@ -18,8 +18,12 @@ pub mod Runner
 pub mod Theorems
 pub mod Edges
 pub mod Changes
+pub mod Counting
 pub mod Numbers
+pub mod Balance
 pub mod Spared
 pub mod Demand3
 -- Two examples on which the definitions of demand 3 can be checked.
 pub mod Witness
+-- An example on which the definitions of the totals can be checked.
+pub mod TotalsExample

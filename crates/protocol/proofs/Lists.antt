@@ -1,12 +1,13 @@
 -- A queue as a list: its head holds, the others wait; what joining at the end and a release make of it. Assumes nothing.
-use Prim.Native.Nat.{ℕ}
-use mathlib.Core.Path.{_≡_, refl, sym, _∙_}
+use Prim.Native.Nat.{ℕ, suc}
+use mathlib.Core.Path.{_≡_, refl, sym, ap, _∙_}
 use mathlib.Core.Bool.{Bool, true, false, cond}
 use mathlib.Core.Option.{Option, none, some}
 use mathlib.Core.List.{List, [], _∷_, _++_}
 use mathlib.Core.Logic.{_≢_, _⊎_, inl, inr, ⊎-elim, _↔_}
-use native.Mathlib.Decide.{ℕ-discrete}
+use native.Mathlib.Decide.{ℕ-discrete, map-dec}
 use lib.Dec.{eqb}
+use lib.ListN.{length}
 use borrow.Author.Tests.{eqb-true, eqb-false, eq-eqb, ne-eqb}
 use Rattle.protocol.specs.Sets.{_∈_, set, hd, distinct}
 use Rattle.protocol.specs.Schedule.{update, without, release}
@@ -34,6 +35,11 @@ dec-in t (x ∷ xs) = dec-either (ℕ-discrete t x) (dec-in t xs)
 pub dec-hd : (t : ℕ) (q : List ℕ) → Dec (t ∈ hd q)
 dec-hd t [] = no (λ b. b)
 dec-hd t (x ∷ xs) = ℕ-discrete t x
+
+-- whether one of the list satisfies Q
+pub dec-among : (Q : ℕ → Type 0) → ((x : ℕ) → Dec (Q x)) → (l : List ℕ) → Dec ((x : ℕ) × (x ∈ set l) × Q x)
+dec-among Q dec [] = no (λ w. w .1)
+dec-among Q dec (x ∷ xs) = map-dec (⊎-elim (λ q. (x, inl refl, q)) (λ w. (w .0, inr (w .1), w .2))) (λ w. ⊎-elim (λ e. inl (rw e at (w .2))) (λ i. inr (w .0, i, w .2)) (w .1)) (dec-either (dec x) (dec-among Q dec xs))
 
 pub hd-one : (q : List ℕ) (t v : ℕ) → t ∈ hd q → v ∈ hd q → t ≡ v
 hd-one [] t v h k = absurd h
@@ -109,6 +115,11 @@ without-gone b (x ∷ xs) d i = if-equal x b (λ l. b ∈ set l → ⊥) _ _ (λ
 pub without-distinct : (b : ℕ) (q : List ℕ) → distinct q → distinct (without b q)
 without-distinct b [] d = d
 without-distinct b (x ∷ xs) d = if-equal x b distinct _ _ (λ e. d .1) (λ n. ((λ i. d .0 (in-without b xs x i)), without-distinct b xs (d .1)))
+
+-- it is shorter by one, where b stood in it
+pub without-shorter : (b : ℕ) (q : List ℕ) → b ∈ set q → length q ≡ suc (length (without b q))
+without-shorter b [] i = absurd i
+without-shorter b (x ∷ xs) i = if-equal x b (λ l. suc (length xs) ≡ suc (length l)) _ _ (λ e. refl) (λ n. ⊎-elim (λ (p : b ≡ x). absurd (n (sym p))) (λ j. ap suc (without-shorter b xs j)) i)
 
 -- who may follow the head of q: a waiter, or nobody where nobody waits
 abbrev pub Follows : List ℕ → Option ℕ → Type 0

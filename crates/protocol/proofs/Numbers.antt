@@ -1,14 +1,13 @@
 -- Sums over a list of threads, and how many threads a set has. Assumes nothing.
 use Prim.Native.Nat.{ℕ, zero, suc, _+_, _*_, _≤_, _<_}
-use mathlib.Core.Path.{_≡_, refl}
+use mathlib.Core.Path.{refl}
 use mathlib.Core.List.{List, [], _∷_}
-use mathlib.Core.Logic.{inl, inr, ⊎-elim}
+use mathlib.Core.Logic.{inl, inr}
 use native.Mathlib.Nat.{suc-mul}
-use native.Mathlib.Decide.{ℕ-discrete}
 use native.Mathlib.Omega.{arith}
 use lib.ListN.{length}
-use Rattle.protocol.specs.Sets.{SetOf, _∈_, set}
-use Rattle.protocol.specs.Demand3.{Number}
+use Rattle.protocol.specs.Sets.{SetOf, _∈_, set, Number}
+use Rattle.protocol.proofs.Counting.{number-none, number-with, number-without}
 
 abbrev pub sum : List ℕ → (ℕ → ℕ) → ℕ
 sum [] f = 0
@@ -30,33 +29,9 @@ sum-bound (x ∷ xs) f K le = omega (arith, le x (inl refl), sum-bound xs f K (�
 
 -- a set whose members lie below n and are decided has a number
 pub number-below : (M : SetOf ℕ) → ((u : ℕ) → Dec (u ∈ M)) → (n : ℕ) → (k : ℕ) × Number (λ u. (u < n) × (u ∈ M)) k
-number-below M dec zero = (0, record { each = []; once = tt; exactly = λ u. (absurd, λ w. absurd (omega (arith, w .0))); size = refl })
+number-below M dec zero = (0, number-none (λ u w. omega (arith, w .0)))
 number-below M dec (suc n) = go (number-below M dec n) (dec n)
   where
     go : (k : ℕ) × Number (λ u. (u < n) × (u ∈ M)) k → Dec (n ∈ M) → (k : ℕ) × Number (λ u. (u < suc n) × (u ∈ M)) k
-    go (k, c) (yes i) = (
-      suc k,
-      record {
-        each = n ∷ c .each;
-        once = ((λ j. absurd (omega (arith, c .exactly n .0 j .0))), c .once);
-        exactly = λ u. (⊎-elim (λ e. (omega arith, rw e i)) (λ j. let w = c .exactly u .0 j in (omega (arith, w .0), w .1)), λ w. at u w (ℕ-discrete u n));
-        size = rw (c .size);
-      },
-    )
-      where
-        at : (u : ℕ) → (u < suc n) × (u ∈ M) → Dec (u ≡ n) → u ∈ set (n ∷ c .each)
-        at u w (yes e) = inl e
-        at u w (no ne) = inr (c .exactly u .1 (omega (arith, w .0), w .1))
-    go (k, c) (no ni) = (
-      k,
-      record {
-        each = c .each;
-        once = c .once;
-        exactly = λ u. ((λ j. let w = c .exactly u .0 j in (omega (arith, w .0), w .1)), λ w. c .exactly u .1 (at u w (ℕ-discrete u n), w .1));
-        size = c .size;
-      },
-    )
-      where
-        at : (u : ℕ) → (u < suc n) × (u ∈ M) → Dec (u ≡ n) → u < n
-        at u w (yes e) = absurd (ni (rw e at (w .1)))
-        at u w (no ne) = omega (arith, w .0)
+    go (k, c) (yes i) = (suc k, number-with c i)
+    go (k, c) (no ni) = (k, number-without c ni)

@@ -8,11 +8,11 @@ use mathlib.Core.Logic.{_≢_, _⊎_, inl, inr, ⊎-elim}
 use native.Mathlib.Omega.{arith}
 use lib.Dec.{eqb}
 use borrow.Author.Tests.{ne-eqb}
-use Rattle.protocol.specs.Sets.{SetOf, _∈_, set}
+use Rattle.protocol.specs.Sets.{SetOf, _∈_, set, Number}
 use Rattle.protocol.specs.Events.{Thread, Priority, Resource, Event, Create, Exit, Set, P, «V», State, threads, priority, prec, _≼_}
 use Rattle.protocol.specs.Schedule.{wq}
 use Rattle.protocol.specs.Rules.{may-follow}
-use Rattle.protocol.specs.Demand3.{Moment, now, before, holds-or-waits, spares, calls-by, calls, calls-of-others, others, Number, Until, so-far, over}
+use Rattle.protocol.specs.Demand3.{Moment, now, before, holds-or-waits, spares, calls-by, calls, calls-of-others, others, Until, so-far, over}
 use Rattle.protocol.proofs.Finite.{attached-in}
 use Rattle.protocol.proofs.Demand3.{until-one}
 

@@ -1,12 +1,10 @@
 -- Demand 3: the words that it uses. Assumes nothing.
 use Prim.Native.Nat.{ℕ, _+_, _≤_}
-use mathlib.Core.Path.{_≡_}
-use mathlib.Core.Logic.{_⊎_, _≢_, _↔_}
+use mathlib.Core.Logic.{_⊎_, _≢_}
 use mathlib.Core.Bool.{Bool, cond, not}
 use mathlib.Core.List.{List, [], _∷_, _++_}
-use lib.ListN.{length}
 use lib.Dec.{eqb}
-use Rattle.protocol.specs.Sets.{SetOf, _∈_, set, distinct}
+use Rattle.protocol.specs.Sets.{SetOf}
 use Rattle.protocol.specs.Events.{Thread, Priority, Resource, Event, Create, Exit, Set, P, «V», State}
 use Rattle.protocol.specs.Schedule.{holds, waits}
 
@@ -49,13 +47,6 @@ calls-of-others th = calls-by (λ u. not (eqb u th))
 -- the others that hold or wait at the moment s
 abbrev pub others : State → Thread → SetOf Thread
 others s th = λ u. (u ≢ th) × holds-or-waits s u
-
--- n is the number of threads in M: a list of that length has each of them once, and no other
-pub record Number (M : SetOf Thread) (n : ℕ) : Type 0 where
-  pub each : List Thread
-  pub once : distinct each
-  pub exactly : (u : Thread) → (u ∈ set each) ↔ (u ∈ M)
-  pub size : length each ≡ n
 
 -- `Until u s s′ es`: of the events s′ that happened after the moment s, es are those until u first neither holds nor waits,
 -- the event that brings this about included, or all so far if that has not come. So the newest event counts if at every

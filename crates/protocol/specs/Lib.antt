@@ -6,6 +6,7 @@ pub mod Schedule
 pub mod Rules
 pub mod Ways
 pub mod Demand3
+pub mod Totals
 pub mod Notions
 pub mod Children
 pub mod Changes

@@ -1,8 +1,9 @@
 -- Sets as the paper uses them: a set says of each thing whether it is in it. Assumes nothing.
 use Prim.Native.Nat.{ℕ, _<_}
 use mathlib.Core.Path.{_≡_}
-use mathlib.Core.Logic.{_⊎_}
+use mathlib.Core.Logic.{_⊎_, _↔_}
 use mathlib.Core.List.{List, [], _∷_}
+use lib.ListN.{length}
 
 infix 4 _∈_
 infixr 6 _∪_
@@ -69,3 +70,10 @@ pub record Highest {A B : Type 0} (at-most : B → B → Type 0) (R : A → B �
 -- n names what is in M, of numbers below N: it is in M, or it is N and nothing is
 abbrev pub Names : ℕ → SetOf ℕ → ℕ → Type 0
 Names N M n = ((n < N) × (n ∈ M)) ⊎ ((n ≡ N) × ((a : ℕ) → ¬ (a ∈ M)))
+
+-- n is the number of what is in M: a list of that length has each of them once, and no other
+pub record Number (M : SetOf ℕ) (n : ℕ) : Type 0 where
+  pub each : List ℕ
+  pub once : distinct each
+  pub exactly : (a : ℕ) → (a ∈ set each) ↔ (a ∈ M)
+  pub size : length each ≡ n

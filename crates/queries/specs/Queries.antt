@@ -6,7 +6,7 @@ use lib.Dec.{eqb, ltb}
 use lib.ListN.{length}
 use Rattle.protocol.specs.Events.{Thread, Resource}
 use Rattle.table.specs.declared.Table.{Table}
-use Rattle.table.specs.Table.{own, queues}
+use Rattle.table.specs.Table.{at, own, queues}
 use Rattle.table.specs.Compute.{is-live, runner, current, waits-for, holder}
 use Rattle.refusals.specs.Refusals.{Refusal, unsound, lowest}
 use Rattle.queries.specs.declared.RunningAnswer.{RunningAnswer}
@@ -30,11 +30,11 @@ thread-refusals t th = unsound t ∷ (record { number = 3; applies = ltb 31 th }
 
 -- and then all else is zero;
 abbrev pub thread-refused : ℕ → ThreadAnswer
-thread-refused n = record { number = n; priority = 0; time = 0; «current_priority» = 0; «current_time» = 0; «waits_for» = 0 }
+thread-refused n = record { number = n; priority = 0; time = 0; «current_priority» = 0; «current_time» = 0; «waits_for» = 0; requests = 0; releases = 0 }
 
--- or 0 with own priority, set time, current precedence and the resource waited for (16 if none)
+-- or 0 with own priority, set time, current precedence, the resource waited for (16 if none) and both totals
 unfoldable pub thread-told : Table → Thread → ThreadAnswer
-thread-told t th = record { number = 0; priority = own t th .0; time = own t th .1; «current_priority» = current t th .0; «current_time» = current t th .1; «waits_for» = waits-for t th }
+thread-told t th = record { number = 0; priority = own t th .0; time = own t th .1; «current_priority» = current t th .0; «current_time» = current t th .1; «waits_for» = waits-for t th; requests = at (t .requests) th; releases = at (t .releases) th }
 
 -- the answer of the thread query: the refusal, or what the table tells
 unfoldable pub thread-answer : Table → Thread → ThreadAnswer

@@ -3,8 +3,8 @@ ghost use mathlib.Core.Path.{_≡_};
 ghost use Prim.Native.Nat.{_-_};
 ghost use Rattle.queries.specs.Queries.{running-answer, thread-answer, thread-refused, resource-answer, resource-refused};
 use soundness::check::check;
-use soundness::check::look;
 use table::Table;
+use table::numbers::numbers;
 use table::queues::wide;
 use table::running::running;
 
@@ -18,7 +18,22 @@ pub struct RunningAnswer {
 pub fn running_of(t: Table) -> RunningAnswer
     ensures { λ r. ⌜ r ≡ running-answer t ⌝ }
 {
-    let c = look(t);
+    let own = numbers(&t.live, &t.priority, &t.time);
+    let current = numbers(&t.live, &t.current_priority, &t.current_time);
+    let c = check(
+        t.clock,
+        &t.live,
+        &t.priority,
+        &t.time,
+        &t.current_priority,
+        &t.current_time,
+        &t.queue,
+        &t.length,
+        &t.requests,
+        &t.releases,
+        &own,
+        &current,
+    );
     if !c.sound {
         return RunningAnswer {
             number: 1,
@@ -27,11 +42,12 @@ pub fn running_of(t: Table) -> RunningAnswer
     }
     RunningAnswer {
         number: 0,
-        running: running(&c.waits, &c.current),
+        running: running(&c.waits, &current),
     }
 }
 
-// A thread's own priority and set time, its current precedence, and the resource it waits for, 16 if none. On a refusal zeros.
+// A thread's own priority and set time, its current precedence, the resource it waits for, 16 if none, and how often it requested and
+// released since it was created. On a refusal zeros.
 #[repr(C)]
 pub struct ThreadAnswer {
     pub number: u8,
@@ -40,6 +56,8 @@ pub struct ThreadAnswer {
     pub current_priority: u8,
     pub current_time: u16,
     pub waits_for: u8,
+    pub requests: u16,
+    pub releases: u16,
 }
 
 fn thread_refused(number: u8) -> ThreadAnswer
@@ -52,6 +70,8 @@ fn thread_refused(number: u8) -> ThreadAnswer
         current_priority: 0,
         current_time: 0,
         waits_for: 0,
+        requests: 0,
+        releases: 0,
     }
 }
 
@@ -60,6 +80,8 @@ fn thread_refused(number: u8) -> ThreadAnswer
 pub fn thread_of(t: Table, thread: u8) -> ThreadAnswer
     ensures { λ r. ⌜ r ≡ thread-answer t thread ⌝ }
 {
+    let own = numbers(&t.live, &t.priority, &t.time);
+    let current = numbers(&t.live, &t.current_priority, &t.current_time);
     let c = check(
         t.clock,
         &t.live,
@@ -69,6 +91,10 @@ pub fn thread_of(t: Table, thread: u8) -> ThreadAnswer
         &t.current_time,
         &t.queue,
         &t.length,
+        &t.requests,
+        &t.releases,
+        &own,
+        &current,
     );
     if !c.sound {
         return thread_refused(1);
@@ -87,6 +113,8 @@ pub fn thread_of(t: Table, thread: u8) -> ThreadAnswer
         current_priority: t.current_priority[i],
         current_time: t.current_time[i],
         waits_for: c.waits[i],
+        requests: t.requests[i],
+        releases: t.releases[i],
     }
 }
 
@@ -119,6 +147,8 @@ fn waiting(n: u8) -> u8
 pub fn resource_of(t: Table, resource: u8) -> ResourceAnswer
     ensures { λ r. ⌜ r ≡ resource-answer t resource ⌝ }
 {
+    let own = numbers(&t.live, &t.priority, &t.time);
+    let current = numbers(&t.live, &t.current_priority, &t.current_time);
     let c = check(
         t.clock,
         &t.live,
@@ -128,6 +158,10 @@ pub fn resource_of(t: Table, resource: u8) -> ResourceAnswer
         &t.current_time,
         &t.queue,
         &t.length,
+        &t.requests,
+        &t.releases,
+        &own,
+        &current,
     );
     if !c.sound {
         return resource_refused(1);

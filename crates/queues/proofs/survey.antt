@@ -1,3 +1,4 @@
 -- What each part of the survey learns.
 mod Sums
+mod Standing
 pub mod Turns

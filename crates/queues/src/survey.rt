@@ -1,4 +1,5 @@
-// Whether the queues are right: lengths, entries, spare places, and that nobody waits in two. And what they say: who waits and who holds.
+// Whether the queues are right: lengths, entries, spare places, and that nobody waits in two. And what they say: who waits and who holds,
+// and in how many each thread stands.
 ghost use mathlib.Core.Path.{_≡_};
 ghost use mathlib.Core.Bool.{true};
 ghost use mathlib.Core.Logic.{_↔_};
@@ -6,7 +7,7 @@ ghost use Prim.Native.Nat.{ℕ, _<_, _≤_};
 ghost use lib.ListN.{length, replicate};
 ghost use Rattle.table.specs.Table.{at};
 ghost use Rattle.table.specs.code.Places.{entry};
-ghost use Rattle.queues.specs.Queues.{places-sum, Row-right, Noted, Rows-right, Surveyed};
+ghost use Rattle.queues.specs.Queues.{places-sum, Row-right, Noted, Counted, Rows-right, Surveyed};
 use table::Table;
 use table::queues::longest;
 use table::queues::wide;
@@ -45,16 +46,18 @@ fn spare_zero(queue: &[u8; Table::PLACES], r: usize, n: usize) -> bool
     sum(queue, r, Table::THREADS) == sum(queue, r, n)
 }
 
-// Whether the n entries of r are live and differ and its waiters wait nowhere else so far; notes r for each of them in waits.
+// Whether the n entries of r are live and differ and its waiters wait nowhere else so far; notes r for each of these in waits, and one queue
+// more for each entry in standing.
 fn row_right<'a>(
     queue: &'a [u8; Table::PLACES],
     live: &'a [u8],
     r: usize,
     n: usize,
     waits: &mut [u8],
+    standing: &mut [u16],
 ) -> bool
-    requires { ⌜ (length (now live) ≡ 32) × (length (now waits) ≡ 32) × (r < 16) × (n ≤ 32) ⌝ }
-    ensures { λ b. ⌜ (b ≡ true → Row-right (now (queue .entry)) (now (live .entry)) (now (waits .entry)) r n × Noted (now (queue .entry)) (now (waits .entry)) (now (waits .exit)) r n)
+    requires { ⌜ (length (now live) ≡ 32) × (length (now waits) ≡ 32) × (length (now standing) ≡ 32) × (r < 16) × (n ≤ 32) × ((x : ℕ) → at (now standing) x ≤ r) ⌝ }
+    ensures { λ b. ⌜ (b ≡ true → Row-right (now (queue .entry)) (now (live .entry)) (now (waits .entry)) r n × Noted (now (queue .entry)) (now (waits .entry)) (now (waits .exit)) r n × Counted (now (queue .entry)) (now (standing .entry)) (now (standing .exit)) r n)
         × (Row-right (now (queue .entry)) (now (live .entry)) (now (waits .entry)) r n → b ≡ true) ⌝ }
 {
     if n == 0 {
@@ -65,6 +68,7 @@ fn row_right<'a>(
     if !is_live(live, head) {
         return false;
     }
+    standing[wide(head)] += 1;
     let mut i = 1;
     while i < n {
         let x = queue[start + i];
@@ -79,23 +83,25 @@ fn row_right<'a>(
             return false;
         }
         waits[at] = r as u8;
+        standing[at] += 1;
         i += 1;
     }
     true
 }
 
-// Whether the queues are right. Where they are, waits has what each thread waits for (16: nothing), and holders who holds each resource
-// (32: nobody). Both are lent, with nothing noted yet, and so are filled where the caller keeps them (docs/DECISIONS.md, "What a call
-// costs").
+// Whether the queues are right. Where they are, waits has what each thread waits for (16: nothing), holders who holds each resource (32:
+// nobody), and standing in how many queues each thread stands. They are lent, with nothing noted yet, and so are filled where the caller
+// keeps them (docs/DECISIONS.md, "What a call costs").
 pub fn survey<'a>(
     queue: &'a [u8; Table::PLACES],
     lengths: &'a [u8; Table::RESOURCES],
     live: &'a [u8; Table::THREADS],
     waits: &mut [u8; Table::THREADS],
     holders: &mut [u8; Table::RESOURCES],
+    standing: &mut [u16; Table::THREADS],
 ) -> bool
-    requires { ⌜ (now waits ≡ replicate 32 16) × (now holders ≡ replicate 16 32) ⌝ }
-    ensures { λ b. ⌜ (b ≡ true → Rows-right (now (queue .entry)) (now (lengths .entry)) (now (live .entry)) 16 × Surveyed (now (queue .entry)) (now (lengths .entry)) 16 (now (waits .exit)) (now (holders .exit)))
+    requires { ⌜ (now waits ≡ replicate 32 16) × (now holders ≡ replicate 16 32) × (now standing ≡ replicate 32 0) ⌝ }
+    ensures { λ b. ⌜ (b ≡ true → Rows-right (now (queue .entry)) (now (lengths .entry)) (now (live .entry)) 16 × Surveyed (now (queue .entry)) (now (lengths .entry)) 16 (now (waits .exit)) (now (holders .exit)) (now (standing .exit)))
         × (Rows-right (now (queue .entry)) (now (lengths .entry)) (now (live .entry)) 16 → b ≡ true) ⌝ }
 {
     // A queue has 32 places.
@@ -110,7 +116,7 @@ pub fn survey<'a>(
         if !spare_zero(queue, r, n) {
             return false;
         }
-        if !row_right(queue, all, r, n, waits) {
+        if !row_right(queue, all, r, n, waits, standing) {
             return false;
         }
         if 0 < n {

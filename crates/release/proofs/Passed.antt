@@ -19,6 +19,7 @@ use Rattle.table.specs.Compute.{first-or-32, holder, waits-for}
 use Rattle.table.specs.code.Tracks.{current-number, Known}
 use Rattle.table.proofs.values.Values.{Good, Lawful, hops, own-rank, all-worth}
 use Rattle.table.proofs.values.Known.{known-good, known-own, worths-tracked}
+use Rattle.events.specs.Events.{one-release-more}
 use Rattle.events.specs.code.Permits.{Permits, release}
 use Rattle.events.proofs.kept.Queues.{Queue-fits, release-passes, release-fits, release-low}
 use Rattle.events.proofs.frame.Queue.{after, after-good, now-queued, live-before, live-after, own-same, law-still, after-waits, waits-nothing, waits-still, holders-now, dead-still}
@@ -40,7 +41,7 @@ module _ (t : Table) {waiting holders owns currents : List ℕ} (k : Known t wai
   abbrev low : cs < 16
   low = release-low t (known-good t k) v
 
-  abbrev fits : Queue-fits t cs left
+  abbrev fits : Queue-fits t cs left (t .requests) (one-release-more t th .releases)
   fits = release-fits t (known-good t k) v
 
   passes : Passes (queues t) cs next

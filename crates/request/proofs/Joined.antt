@@ -1,7 +1,7 @@
 -- An entry behind the last one of a queue: the places are those of the longer queue. Assumes nothing.
 use Prim.Native.Nat.{ℕ, _+_, _*_, _≤_, _<_}
 use mathlib.Core.Path.{_≡_, sym, ap, _∙_}
-use mathlib.Core.List.{[], _∷_, _++_}
+use mathlib.Core.List.{List, [], _∷_, _++_}
 use mathlib.Core.Logic.{_≢_, _⊎_, inl, inr}
 use native.Mathlib.Decide.{decLt}
 use native.Mathlib.Omega.{arith}
@@ -21,7 +21,7 @@ module _ (t : Table) (g : Good t) (cs th : ℕ) (low : cs < 16) where
   joined-length = length-append (queues t cs) (th ∷ []) ∙ ap (λ (n : ℕ). n + 1) (queue-length t g cs low)
 
   -- where a queue has a place for one more, its length is below 32
-  pub room-for : Queue-fits t cs (queues t cs ++ (th ∷ [])) → at (t .length) cs < 32
+  pub room-for : {requests releases : List ℕ} → Queue-fits t cs (queues t cs ++ (th ∷ [])) requests releases → at (t .length) cs < 32
   room-for f = omega (arith, queue-short t cs (queues t cs ++ (th ∷ [])) (g .shape) f, joined-length)
 
   pub joined-places : at (t .length) cs < 32 → set (t .queue) (cs * 32 + at (t .length) cs) th ≡ rewritten (t .queue) (cs * 32) (queues t cs ++ (th ∷ []))

@@ -24,7 +24,7 @@ use Rattle.table.proofs.sound.Read.{holder-first}
 use Rattle.table.proofs.tests.Computed.{sixteen}
 use Rattle.table.proofs.values.Values.{Good, hops, own-rank, Lawful, all-worth, Stands-at, resource-low, thread-low}
 use Rattle.table.proofs.values.Known.{known-good, known-own, known-worth, known-lawful, worths-tracked}
-use Rattle.events.specs.Events.{with-queue, changed}
+use Rattle.events.specs.Events.{one-request-more, with-queue, changed}
 use Rattle.events.specs.Count.{walk, request-count, count}
 use Rattle.events.specs.code.Work.{Begun, Done-with}
 use Rattle.events.proofs.kept.Queues.{Queue-fits, request-fits, request-joins, request-low}
@@ -57,7 +57,7 @@ module _ {t : Table} {th cs : ℕ} {queue lengths holders waiting owns currents 
   abbrev q : List ℕ
   q = queues t cs ++ (th ∷ [])
 
-  fits : Queue-fits t cs q
+  fits : Queue-fits t cs q (one-request-more t th .requests) (t .releases)
   fits = request-fits t good (k .permitted)
 
   joins : Joins (queues t) th cs

@@ -1,3 +1,4 @@
-// What a table's slots keep to: each by itself, and their times among each other.
+// What a table's slots keep to: each by itself, their totals, and their times among each other.
 pub mod right;
 pub mod times;
+pub mod totals;

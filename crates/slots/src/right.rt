@@ -13,9 +13,16 @@ fn late(clock: u16, time: u16) -> u16
     if time < clock { 0 } else { 1 }
 }
 
-// 0 if a slot is zero everywhere, else 1.
-fn not_zero(live: u8, priority: u8, time: u16, current_priority: u8, current_time: u16) -> u16
-    ensures { λ r. ⌜ ((live + priority + time + «current_priority» + «current_time» ≡ 0) × (r ≡ 0)) ⊎ ((0 < live + priority + time + «current_priority» + «current_time») × (r ≡ 1)) ⌝ }
+// 0 if a slot is zero everywhere but in its releases, which `totals_right` decides, else 1.
+fn not_zero(
+    live: u8,
+    priority: u8,
+    time: u16,
+    current_priority: u8,
+    current_time: u16,
+    requests: u16,
+) -> u16
+    ensures { λ r. ⌜ ((live + priority + time + «current_priority» + «current_time» + requests ≡ 0) × (r ≡ 0)) ⊎ ((0 < live + priority + time + «current_priority» + «current_time» + requests) × (r ≡ 1)) ⌝ }
 {
     if live != 0 {
         return 1;
@@ -30,6 +37,9 @@ fn not_zero(live: u8, priority: u8, time: u16, current_priority: u8, current_tim
         return 1;
     }
     if current_time != 0 {
+        return 1;
+    }
+    if requests != 0 {
         return 1;
     }
     0
@@ -51,13 +61,21 @@ fn slot_wrong(
     time: u16,
     current_priority: u8,
     current_time: u16,
+    requests: u16,
 ) -> u16
-    ensures { λ r. ⌜ (r ≤ 1) × ((r ≡ 0) ↔ Slot-right clock live priority time «current_priority» «current_time») ⌝ }
+    ensures { λ r. ⌜ (r ≤ 1) × ((r ≡ 0) ↔ Slot-right clock live priority time «current_priority» «current_time» requests) ⌝ }
 {
     if_live(
         live,
         late(clock, time),
-        not_zero(live, priority, time, current_priority, current_time),
+        not_zero(
+            live,
+            priority,
+            time,
+            current_priority,
+            current_time,
+            requests,
+        ),
     )
 }
 
@@ -69,8 +87,9 @@ pub fn slots_right<'a>(
     time: &'a [u16; Table::THREADS],
     current_priority: &'a [u8; Table::THREADS],
     current_time: &'a [u16; Table::THREADS],
+    requests: &'a [u16; Table::THREADS],
 ) -> bool
-    ensures { λ r. ⌜ (r ≡ true) ↔ Slots-right clock (now (live .entry)) (now (priority .entry)) (now (time .entry)) (now («current_priority» .entry)) (now («current_time» .entry)) ⌝ }
+    ensures { λ r. ⌜ (r ≡ true) ↔ Slots-right clock (now (live .entry)) (now (priority .entry)) (now (time .entry)) (now («current_priority» .entry)) (now («current_time» .entry)) (now (requests .entry)) ⌝ }
 {
     let mut wrong: u16 = 0;
     let mut i = 0;
@@ -82,6 +101,7 @@ pub fn slots_right<'a>(
             time[i],
             current_priority[i],
             current_time[i],
+            requests[i],
         );
         i += 1;
     }

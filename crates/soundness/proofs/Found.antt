@@ -1,5 +1,7 @@
 -- The answer of the test for soundness is what document 01's definition computes. Assumes nothing.
+use Prim.Native.Nat.{ℕ}
 use mathlib.Core.Path.{_≡_, sym, _∙_}
+use mathlib.Core.List.{List}
 use mathlib.Core.Bool.{true, false, not}
 use borrow.Author.Tests.{not-true, not-false}
 use Rattle.table.specs.declared.Table.{Table}
@@ -9,7 +11,7 @@ use Rattle.table.proofs.tests.Decided.{tells-sound}
 use Rattle.soundness.specs.declared.check.Checked.{Checked}
 use Rattle.soundness.specs.Checked.{Checked-right}
 
-module _ (t : Table) {c : Checked} (k : Checked-right t c) where
+module _ (t : Table) {owns currents : List ℕ} {c : Checked} (k : Checked-right t owns currents c) where
   pub sound-is : c .sound ≡ is-sound t
   sound-is = same-test ((λ e. k .known e .sound), k .passes) (tells-sound t (k .shape))
 

@@ -1,12 +1,14 @@
--- The rules of soundness for queues, place by place and in the paper's terms: the same. Assumes nothing.
-use Prim.Native.Nat.{ℕ, _≤_, _<_}
+-- The rules of soundness for queues and totals, place by place and in the paper's terms: the same. Assumes nothing.
+use Prim.Native.Nat.{ℕ, _+_, _≤_, _<_}
 use mathlib.Core.Path.{_≡_, refl, sym, ap, subst, _∙_}
 use mathlib.Core.List.{List}
 use mathlib.Core.Logic.{_≢_, _↔_}
 use native.Mathlib.Decide.{ℕ-discrete}
 use native.Mathlib.Omega.{arith}
+use Rattle.protocol.specs.Sets.{_∈_, set, Number}
 use Rattle.protocol.specs.Children.{children}
 use Rattle.protocol.proofs.Chains.{Ends}
+use Rattle.protocol.proofs.Counting.{number-same, number-unique}
 use Rattle.table.specs.declared.Table.{Table}
 use Rattle.table.specs.Table.{at, queues}
 use Rattle.table.specs.Sound.{Queues-right, Bare}
@@ -15,8 +17,13 @@ use Rattle.table.specs.code.Shape.{Shape}
 use Rattle.table.proofs.sound.Queues.{taken-low, in-queue, distinct-queue, holds-first, waits-behind, waits-low, behind-waits, One-queue}
 use Rattle.chains.specs.Ways.{Ends-from}
 use Rattle.chains.proofs.ways.Climbs.{Graphed, unheld-empty, walk-ends}
+use Rattle.slots.specs.Slots.{Adds-up, All-add-up}
 use Rattle.queues.specs.Queues.{Rows-right, Surveyed}
 use Rattle.soundness.proofs.Bounded.{bounded}
+
+-- the totals of th add up, by the number of queues that it stands in
+abbrev pub Standing-total : Table → ℕ → Type 0
+Standing-total t th = (n : ℕ) × Number (λ cs. th ∈ set (queues t cs)) n × Adds-up (t .clock) (at (t .requests) th) (at (t .releases) th) n
 
 module _ (t : Table) (shape : Shape t) where
   pub bare-rows : Bare t → Rows-right (t .queue) (t .length) (t .live) 16
@@ -48,7 +55,7 @@ module _ (t : Table) (shape : Shape t) where
     rows-one-queue x r q v w = rows .one-queue r q x (waits-low t shape rows-lengths x r v) (waits-low t shape rows-lengths x q w) (waits-behind t shape rows-lengths x r v) (waits-behind t shape rows-lengths x q w)
 
     -- what the survey noted is the table's graph
-    pub surveyed-graphed : {w h : List ℕ} → Surveyed (t .queue) (t .length) 16 w h → Graphed t w h
+    pub surveyed-graphed : {w h standing : List ℕ} → Surveyed (t .queue) (t .length) 16 w h standing → Graphed t w h
     surveyed-graphed s = record {
       waiting = λ x r v. s .waiting r x (waits-low t shape rows-lengths x r v) (waits-behind t shape rows-lengths x r v);
       free = λ x l none. s .free x l (λ r k b. none r (behind-waits t shape rows-lengths x r (rows-right .differ r) b));
@@ -57,5 +64,15 @@ module _ (t : Table) (shape : Shape t) where
     }
 
     -- and its ways end where the table's do
-    pub surveyed-ends : {w h : List ℕ} → Surveyed (t .queue) (t .length) 16 w h → ((x : ℕ) → x < 32 → Ends-from w h x) ↔ ((x : ℕ) → x < 32 → Ends (children (queues t)) x)
+    pub surveyed-ends : {w h standing : List ℕ} → Surveyed (t .queue) (t .length) 16 w h standing → ((x : ℕ) → x < 32 → Ends-from w h x) ↔ ((x : ℕ) → x < 32 → Ends (children (queues t)) x)
     surveyed-ends s = walk-ends t shape rows-right (surveyed-graphed s)
+
+    -- in so many queues each thread stands, so that the totals add up where they do in the table's terms
+    pub surveyed-totals : {w h standing : List ℕ} → Surveyed (t .queue) (t .length) 16 w h standing → All-add-up (t .clock) (t .requests) (t .releases) standing ↔ ((th : ℕ) → th < 32 → Standing-total t th)
+    surveyed-totals {standing = standing} s = (
+      (λ add th h. (at standing th, stands th h, add th h)),
+      λ totals th h. let w = totals th h in (w .2 .0 ∙ ap (λ (n : ℕ). at (t .releases) th + n) (number-unique (w .1) (stands th h)), w .2 .1),
+    )
+      where
+        stands : (x : ℕ) → x < 32 → Number (λ cs. x ∈ set (queues t cs)) (at standing x)
+        stands x h = number-same (λ r. let i = in-queue t shape rows-lengths r x in ((λ w. i .1 (w .1)), λ e. let w = i .0 e in (taken-low t shape r (w .0) (w .1), w))) (s .stands x h)

@@ -13,7 +13,7 @@ use Rattle.table.specs.declared.Table.{Table}
 use Rattle.table.specs.Table.{at, live}
 use Rattle.table.specs.Sound.{Bare, Sound}
 use Rattle.table.specs.Compute.{current, holder}
-use Rattle.table.specs.code.Places.{slot-number}
+use Rattle.table.specs.code.Places.{slot-number, Numbers-of}
 use Rattle.table.specs.code.Shape.{Shape}
 use Rattle.table.specs.code.Tracks.{current-number, Known}
 use Rattle.table.proofs.sound.Read.{if-live, if-dead, current-stored}
@@ -28,26 +28,21 @@ use Rattle.soundness.proofs.Bounded.{bounded}
 use Rattle.soundness.proofs.Law.{Numbered}
 use Rattle.soundness.proofs.Passed.{Passed, passed-bare, sound-passed, passed-sound, sound-lawful}
 
--- what `numbers` says of the arrays that it is lent
-abbrev pub Numbers-of : List ℕ → List ℕ → List ℕ → List ℕ → Type 0
-Numbers-of live priority time all =
-    ((th : ℕ) → th < 32 → at all th ≡ slot-number (at live th) (at priority th) (at time th)) × ((th : ℕ) → th < 32 → (at priority th < 256) × (at time th < 65536))
-
 -- a part that fails
-pub fails : (t : Table) → Shape t → (c : Checked) → c .sound ≡ false → ¬ Passed t → Checked-right t c
+pub fails : (t : Table) → Shape t → {owns currents : List ℕ} (c : Checked) → c .sound ≡ false → ¬ Passed t → Checked-right t owns currents c
 fails t shape c failed bad = record { shape = shape; known = λ e. absurd (false≢true (sym failed ∙ e)); passes = λ s. absurd (bad (sound-passed t shape s)) }
 
-module _ (t : Table) (shape : Shape t) (c : Checked)
-    (owns : Numbers-of (t .live) (t .priority) (t .time) (c .own))
-    (currents : Numbers-of (t .live) (t .«current_priority») (t .«current_time») (c .current)) where
-  numbered : Numbered t (c .own) (c .current)
+module _ (t : Table) (shape : Shape t) (own now-stored : List ℕ) (c : Checked)
+    (owns : Numbers-of (t .live) (t .priority) (t .time) own)
+    (currents : Numbers-of (t .live) (t .«current_priority») (t .«current_time») now-stored) where
+  numbered : Numbered t own now-stored
   numbered = record { owns-are = owns .0; currents-are = currents .0; current-times-fit = bounded (t .«current_time») 32 65535 (shape .current-time-size) (λ th h. omega (arith, currents .1 th h .1)) }
 
   priorities : (th : ℕ) → at (t .priority) th ≤ 255
   priorities = bounded (t .priority) 32 255 (shape .priority-size) (λ th h. omega (arith, owns .1 th h .0))
 
   -- in a sound table what is stored is what is defined
-  defined : Sound t → (th : ℕ) → th < 32 → at (c .current) th ≡ current-number t th
+  defined : Sound t → (th : ℕ) → th < 32 → at now-stored th ≡ current-number t th
   defined s th h = currents .0 th h ∙ go (ℕ-discrete (at (t .live) th) 1)
     where
       go : Dec (th ∈ live t) → slot-number (at (t .live) th) (at (t .«current_priority») th) (at (t .«current_time») th) ≡ current-number t th
@@ -55,9 +50,9 @@ module _ (t : Table) (shape : Shape t) (c : Checked)
       go (no n) = slot-dead (at (t .live) th) (at (t .«current_priority») th) (at (t .«current_time») th) n ∙ sym (if-dead t th (rank 65535 (current t th)) n)
 
   -- the last part decides
-  pub decides : t .clock < 65536 → Passed t → Surveyed (t .queue) (t .length) 16 (c .waits) (c .holders) →
-      (v : List ℕ) → ((th : ℕ) → th < 32 → Max _≤_ (Compared (t .queue) (t .length) (c .holders) (c .current) 16 (at (c .own) th) th) (at v th)) →
-      (c .sound ≡ true) ↔ ((th : ℕ) → th < 32 → at v th ≡ at (c .current) th) → Checked-right t c
+  pub decides : t .clock < 65536 → Passed t → {standing : List ℕ} → Surveyed (t .queue) (t .length) 16 (c .waits) (c .holders) standing →
+      (v : List ℕ) → ((th : ℕ) → th < 32 → Max _≤_ (Compared (t .queue) (t .length) (c .holders) now-stored 16 (at own th) th) (at v th)) →
+      (c .sound ≡ true) ↔ ((th : ℕ) → th < 32 → at v th ≡ at now-stored th) → Checked-right t own now-stored c
   decides clock p surveyed v worth same = record {
     shape = shape;
     known = λ e. known (passed-sound t shape (c .holders) holders-right numbered bare p
@@ -74,7 +69,7 @@ module _ (t : Table) (shape : Shape t) (c : Checked)
       holders-right : (cs : ℕ) → cs < 16 → at (c .holders) cs ≡ holder t cs
       holders-right = graphed-holders t shape (bare .queues-right) graphed
 
-      known : Sound t → Known t (c .waits) (c .holders) (c .own) (c .current)
+      known : Sound t → Known t (c .waits) (c .holders) own now-stored
       known s = record {
         shape = shape;
         sound = s;

@@ -3,6 +3,7 @@ ghost use mathlib.Core.Path.{_≡_};
 ghost use mathlib.Core.Bool.{true};
 ghost use mathlib.Core.Logic.{_↔_};
 ghost use Rattle.table.specs.Sound.{Sound};
+ghost use Rattle.table.specs.code.Places.{Numbers-of};
 ghost use Rattle.table.specs.code.Shape.{table-of, Shape};
 ghost use Rattle.soundness.specs.Checked.{Checked-right};
 use chains::law::law_values;
@@ -11,22 +12,22 @@ use chains::ways::no_circle;
 use queues::survey::survey;
 use slots::right::slots_right;
 use slots::times::times_differ;
+use slots::totals::totals_right;
 use table::Table;
 use table::numbers::numbers;
 use table::queues::longest;
 
-// sound: the answer. The rest is known of a sound table. waits: what each thread waits for (16: nothing). holders: who holds each
-// resource (32: nobody). own, current: the numbers of the own and the current precedences (0: not live).
+// sound: the answer. The rest is known of a sound table. waits: what each thread waits for (16: nothing). holders: who holds each resource
+// (32: nobody).
 pub struct Checked {
     pub sound: bool,
     pub waits: [u8; Table::THREADS],
     pub holders: [u8; Table::RESOURCES],
-    pub own: [u32; Table::THREADS],
-    pub current: [u32; Table::THREADS],
 }
 
 // The arrays are lent, so that a caller need not copy its table. That they have their sizes is for the caller to say: an array behind
-// a reference doesn't tell the proof, and a table by value does.
+// a reference doesn't tell the proof, and a table by value does. `own` and `current` are the numbers of the own and of the stored current
+// precedences: the caller keeps them, and need not be handed them back (docs/DECISIONS.md, "What a call costs").
 pub fn check<'a>(
     clock: u16,
     live: &'a [u8; Table::THREADS],
@@ -36,37 +37,57 @@ pub fn check<'a>(
     current_time: &'a [u16; Table::THREADS],
     queue: &'a [u8; Table::PLACES],
     lengths: &'a [u8; Table::RESOURCES],
+    requests: &'a [u16; Table::THREADS],
+    releases: &'a [u16; Table::THREADS],
+    own: &'a [u32; Table::THREADS],
+    current: &'a [u32; Table::THREADS],
 ) -> Checked
-    ensures { λ c. ⌜ (let t = table-of clock (now (live .entry)) (now (priority .entry)) (now (time .entry)) (now («current_priority» .entry)) (now («current_time» .entry)) (now (queue .entry)) (now (lengths .entry)) in Shape t → Checked-right t c) ⌝ }
+    ensures { λ c. ⌜ (let t = table-of clock (now (live .entry)) (now (priority .entry)) (now (time .entry)) (now («current_priority» .entry)) (now («current_time» .entry)) (now (queue .entry)) (now (lengths .entry)) (now (requests .entry)) (now (releases .entry)) in
+        Shape t → Numbers-of (t .live) (t .priority) (t .time) (now (own .entry)) → Numbers-of (t .live) (t .«current_priority») (t .«current_time») (now (current .entry)) → Checked-right t (now (own .entry)) (now (current .entry)) c) ⌝ }
 {
-    let own = numbers(live, priority, time);
-    let current = numbers(live, current_priority, current_time);
     let mut waits = [Table::NOTHING; Table::THREADS];
     let mut holders = [Table::NOBODY; Table::RESOURCES];
-    let right = survey(queue, lengths, live, &mut waits, &mut holders);
+    let mut standing = [0u16; Table::THREADS];
+    let right = survey(
+        queue,
+        lengths,
+        live,
+        &mut waits,
+        &mut holders,
+        &mut standing,
+    );
     // Where no queue has a second entry nobody waits, so that the ways need not be walked.
     let sound = right
-        && slots_right(clock, live, priority, time, current_priority, current_time)
+        && slots_right(
+            clock,
+            live,
+            priority,
+            time,
+            current_priority,
+            current_time,
+            requests,
+        )
+        && totals_right(clock, requests, releases, &standing)
         && times_differ(live, time)
         && (longest(lengths) < 2 || no_circle(&waits, &holders))
         && same(
-            &law_values(queue, lengths, &holders, own, &current),
-            &current,
+            &law_values(queue, lengths, &holders, *own, current),
+            current,
         );
     Checked {
         sound,
         waits,
         holders,
-        own,
-        current,
     }
 }
 
-// The same of a table by value.
-pub fn look(t: Table) -> Checked
-    ensures { λ c. ⌜ Checked-right t c ⌝ }
+// Whether a table is sound.
+pub fn sound(t: Table) -> bool
+    ensures { λ b. ⌜ (b ≡ true) ↔ Sound t ⌝ }
 {
-    check(
+    let own = numbers(&t.live, &t.priority, &t.time);
+    let current = numbers(&t.live, &t.current_priority, &t.current_time);
+    let c = check(
         t.clock,
         &t.live,
         &t.priority,
@@ -75,13 +96,10 @@ pub fn look(t: Table) -> Checked
         &t.current_time,
         &t.queue,
         &t.length,
-    )
-}
-
-// Whether a table is sound.
-pub fn sound(t: Table) -> bool
-    ensures { λ b. ⌜ (b ≡ true) ↔ Sound t ⌝ }
-{
-    let c = look(t);
+        &t.requests,
+        &t.releases,
+        &own,
+        &current,
+    );
     c.sound
 }

@@ -1,4 +1,4 @@
--- Document 01's definitions on a table once more, as tests and values that compute. Assumes nothing.
+-- Document 01's definitions on a table once more, and document 02's of the totals, as tests and values that compute. Assumes nothing.
 use Prim.Native.Nat.{ℕ, zero, suc, _+_, _*_}
 use mathlib.Core.Bool.{Bool, true, false, cond, not, _&&_, _||_}
 use mathlib.Core.List.{List, [], _∷_}
@@ -106,7 +106,7 @@ same p q = eqb (p .0) (q .0) && eqb (p .1) (q .1)
 
 -- a dead slot is zero
 unfoldable pub dead-zero : Table → Thread → Bool
-dead-zero t th = is-live t th || (eqb (at (t .live) th) 0 && (same (own t th) (0, 0) && same (stored t th) (0, 0)))
+dead-zero t th = is-live t th || (eqb (at (t .live) th) 0 && (same (own t th) (0, 0) && (eqb (at (t .requests) th) 0 && (eqb (at (t .releases) th) 0 && same (stored t th) (0, 0)))))
 
 -- the queue places of cs beyond its length are zero
 unfoldable pub spare-zero : Table → Resource → Bool
@@ -125,6 +125,23 @@ queue-right t cs = leb (at (t .length) cs) 32 && (each (is-live t) (queues t cs)
 unfoldable pub waits-once : Table → Resource → Bool
 waits-once t cs = each (λ th. not (is-waiting t th cs) || eqb (waits-for t th) cs) (queues t cs)
 
+-- how many of the first n resources th holds
+unfoldable pub held-below : Table → Thread → ℕ → ℕ
+held-below t th zero = 0
+held-below t th (suc n) = let r = held-below t th n in cond (eqb (holder t n) th) (suc r) r
+
+-- the requests of th that were not released: the resources that it holds, and 1 if it waits
+unfoldable pub unreleased : Table → Thread → ℕ
+unreleased t th = let w : ℕ = cond (eqb (waits-for t th) 16) 0 1 in held-below t th 16 + w
+
+-- a live thread's requests equal its releases plus those that were not released
+unfoldable pub balance-right : Table → Thread → Bool
+balance-right t th = not (is-live t th) || eqb (at (t .requests) th) (at (t .releases) th + unreleased t th)
+
+-- no total of th is above the clock
+unfoldable pub totals-low : Table → Thread → Bool
+totals-low t th = leb (at (t .requests) th) (t .clock) && leb (at (t .releases) th) (t .clock)
+
 -- a live thread's stored current precedence is the defined one
 unfoldable pub current-right : Table → Thread → Bool
 current-right t th = let s = same (stored t th) (current t th) in not (is-live t th) || s
@@ -140,4 +157,6 @@ is-sound t =
     && (all-below 16 (queue-right t)
     && (all-below 16 (waits-once t)
     && (all-below 32 (ends 33 t)
-    && all-below 32 (current-right t))))))))
+    && (all-below 32 (balance-right t)
+    && (all-below 32 (totals-low t)
+    && all-below 32 (current-right t))))))))))

@@ -1,10 +1,11 @@
--- Document 01: a table is sound when these rules hold, in its order. Assumes nothing.
+-- Document 01: a table is sound when these rules hold, in its order; document 02's K2 adds two. Assumes nothing.
 use Prim.Native.Nat.{ℕ, _+_, _*_, _≤_, _<_}
 use mathlib.Core.Path.{_≡_}
 use Rattle.protocol.specs.Sets.{_∈_, set, distinct}
 use Rattle.protocol.specs.Events.{Thread, Resource}
 use Rattle.protocol.specs.Graph.{Node}
 use Rattle.protocol.specs.Ways.{Way}
+use Rattle.protocol.specs.Totals.{Balanced}
 use Rattle.table.specs.declared.Table.{Table}
 use Rattle.table.specs.Table.{at, slot, dead-slot, live, stored, queues, waits, cprec}
 
@@ -19,7 +20,14 @@ pub record Queues-right (t : Table) : Type 0 where
   pub live-entries : (cs : Resource) (th : Thread) → th ∈ set (queues t cs) → th ∈ live t
   pub differ : (cs : Resource) → distinct (queues t cs)
 
--- the rules, in their order, but for what they say of the stored current precedences
+-- document 02, K2: "requests equal releases plus resources held, plus 1 if the thread waits. That balance, and that no total is above the clock, join the rules of a sound table"
+pub record Totals-right (t : Table) : Type 0 where
+  -- of each live thread
+  pub balance : (th : Thread) → th ∈ live t → Balanced (queues t) th (at (t .requests) th) (at (t .releases) th)
+  -- of every slot
+  pub low : (th : Thread) → (at (t .requests) th ≤ t .clock) × (at (t .releases) th ≤ t .clock)
+
+-- document 01's rules, in their order, but for what they say of the stored current precedences
 pub record Bare (t : Table) : Type 0 where
   -- the clock is in range
   pub clock : t .clock ≤ 65535
@@ -38,10 +46,12 @@ pub record Bare (t : Table) : Type 0 where
   -- going from a thread to the resource it waits for, from a resource to its holder, and so on, ends from every start
   pub ways-end : (a : Node) → (k : ℕ) × Way (queues t) a k
 
--- a table is sound when all of these hold, and of the stored current precedences:
+-- a table is sound when all of these hold, and besides:
 pub record Sound (t : Table) : Type 0 where
   pub bare : Bare t
-  -- in dead slots they are zero too
+  -- in dead slots the stored current precedences are zero too
   pub dead-stored : (th : Thread) → ¬ (th ∈ live t) → stored t th ≡ (0, 0)
-  -- each is the defined one; for threads that aren't live nothing is claimed but the zeros above
+  -- each of these is the defined one; for threads that aren't live nothing is claimed but the zeros above
   pub current : (th : Thread) → th ∈ live t → cprec t th (stored t th)
+  -- the totals are in balance, and none is above the clock
+  pub totals : Totals-right t

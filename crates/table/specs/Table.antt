@@ -24,15 +24,17 @@ empty = record {
   «current_time» = replicate 32 0;
   queue = replicate 512 0;
   length = replicate 16 0;
+  requests = replicate 32 0;
+  releases = replicate 32 0;
 }
 
 -- what the table has of one thread, but for its current precedence
 abbrev pub slot : Table → Thread → Slot
-slot t th = record { live = at (t .live) th; priority = at (t .priority) th; time = at (t .time) th }
+slot t th = record { live = at (t .live) th; priority = at (t .priority) th; time = at (t .time) th; requests = at (t .requests) th; releases = at (t .releases) th }
 
 -- the slot of a thread that isn't live: zero everywhere
 abbrev pub dead-slot : Slot
-dead-slot = record { live = 0; priority = 0; time = 0 }
+dead-slot = record { live = 0; priority = 0; time = 0; requests = 0; releases = 0 }
 
 -- live or not
 abbrev pub live : Table → SetOf Thread

@@ -1,9 +1,9 @@
 // Precedences as numbers: a higher precedence is a greater number, and 0 is nobody's.
 ghost use mathlib.Core.Path.{_≡_};
-ghost use Prim.Native.Nat.{ℕ, _<_};
+ghost use Prim.Native.Nat.{_<_};
 ghost use Rattle.protocol.specs.Rank.{rank};
 ghost use Rattle.table.specs.Table.{at};
-ghost use Rattle.table.specs.code.Places.{slot-number};
+ghost use Rattle.table.specs.code.Places.{slot-number, Numbers-of};
 use crate::Table;
 
 pub fn number(priority: u8, time: u16) -> u32
@@ -24,8 +24,7 @@ pub fn numbers<'a>(
     priority: &'a [u8; Table::THREADS],
     time: &'a [u16; Table::THREADS],
 ) -> [u32; Table::THREADS]
-    ensures { λ r. ⌜ ((th : ℕ) → th < 32 → at r th ≡ slot-number (at (now (live .entry)) th) (at (now (priority .entry)) th) (at (now (time .entry)) th))
-        × ((th : ℕ) → th < 32 → (at (now (priority .entry)) th < 256) × (at (now (time .entry)) th < 65536)) ⌝ }
+    ensures { λ r. ⌜ Numbers-of (now (live .entry)) (now (priority .entry)) (now (time .entry)) r ⌝ }
 {
     let mut all = [0u32; Table::THREADS];
     let mut i = 0;

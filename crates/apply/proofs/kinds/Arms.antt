@@ -1,10 +1,11 @@
 -- Each kind of accepted record: its event may begin, and what it leaves is the record's. Assumes nothing.
-use Prim.Native.Nat.{ℕ, _≤_}
+use Prim.Native.Nat.{ℕ, _≤_, _<_}
 use mathlib.Core.Path.{_≡_, refl}
 use mathlib.Core.Option.{Option, some}
 use mathlib.Core.List.{List, [], _∷_, _++_}
 use mathlib.Core.Logic.{by-cases}
 use native.Mathlib.Decide.{ℕ-discrete}
+use native.Mathlib.Omega.{arith}
 use lib.ListN.{set as put, length-set}
 use lib.Seq.{ext-getD, getD-set-same, getD-set-other}
 use Rattle.protocol.specs.Events.{Event, Create, Exit, Set, P, «V»}
@@ -12,9 +13,9 @@ use Rattle.protocol.specs.Schedule.{release as leave}
 use Rattle.table.specs.declared.Table.{Table}
 use Rattle.table.specs.declared.Slot.{Slot}
 use Rattle.table.specs.Table.{at, slot, dead-slot, queues}
-use Rattle.table.specs.Slots.{fresh-slot, set-slot}
+use Rattle.table.specs.Slots.{fresh-slot, set-slot, requested-slot, released-slot}
 use Rattle.refusals.specs.declared.Record.{Record}
-use Rattle.events.specs.Events.{later, with-slot, with-queue, changed, named}
+use Rattle.events.specs.Events.{later, with-slot, one-request-more, one-release-more, with-queue, changed, named}
 use Rattle.events.specs.code.Permits.{Permits}
 use Rattle.events.specs.code.Rows.{next-at}
 use Rattle.events.specs.code.Work.{Begun, Done-with}
@@ -35,14 +36,22 @@ module _ (t : Table) (th : ℕ) where
   unfolding with-slot
   slot-made n = refl
 
-  queue-made : (cs : ℕ) (q : List ℕ) → later (with-queue t cs q) ≡ made-table t th (slot t th) (with-queue t cs q .queue) (with-queue t cs q .length)
+  request-made : (cs : ℕ) (q : List ℕ) → later (with-queue (one-request-more t th) cs q) ≡ made-table t th (requested-slot (slot t th)) (with-queue (one-request-more t th) cs q .queue) (with-queue (one-request-more t th) cs q .length)
   unfolding with-queue
-  queue-made cs q = rw (same-again (t .live) th, same-again (t .priority) th, same-again (t .time) th)
+  request-made cs q = rw (same-again (t .live) th, same-again (t .priority) th, same-again (t .time) th, same-again (t .releases) th)
+
+  release-made : (cs : ℕ) (q : List ℕ) → later (with-queue (one-release-more t th) cs q) ≡ made-table t th (released-slot (slot t th)) (with-queue (one-release-more t th) cs q .queue) (with-queue (one-release-more t th) cs q .length)
+  unfolding with-queue
+  release-made cs q = rw (same-again (t .live) th, same-again (t .priority) th, same-again (t .time) th, same-again (t .requests) th)
 
 module _ (t : Table) (e : Record) {queue lengths holders waits owns currents : List ℕ} {s : Slot} {clock p : ℕ} (a : Accepted t e queue lengths holders waits owns currents s clock p) where
   -- an event that the table permits may begin
   pub begun : {ev : Event} → Permits t ev → Begun t ev queue lengths holders waits owns currents
   begun permits = record { known = a .known; early = early t e (a .known .shape) (a .unrefused); permitted = permits; queue-is = a .queue-is; lengths-are = a .lengths-are }
+
+  -- no total is above the clock, so that one more fits
+  pub totals-early : (s .requests < 65535) × (s .releases < 65535)
+  totals-early = let low = a .known .sound .totals .low (e .thread) in let room = early t e (a .known .shape) (a .unrefused) in rw (a .slot-is) (omega (arith, low .0, room), omega (arith, low .1, room))
 
   abbrev pub next : Option ℕ
   next = next-at queue (e .argument) p
@@ -75,12 +84,12 @@ module _ (t : Table) (e : Record) {queue lengths holders waits owns currents : L
     set-applied k small d q = applied (names-set e next k) (set-permitted t e (a .known .shape) (a .unrefused) k small) d (rw (a .clock-is, a .slot-is) at q) (slot-made t (e .thread) (set-slot (slot t (e .thread)) (e .argument) (t .clock)))
 
     pub request-applied : (k : e .kind ≡ 4) → {n : ℕ} → Done-with t (P (e .thread) (e .argument)) queue′ lengths′ holders′ waits′ currents′ n →
-        c ≡ record { slot = s; count = n } → Applied t e next queue′ lengths′ holders′ waits′ currents′ c
+        c ≡ record { slot = requested-slot s; count = n } → Applied t e next queue′ lengths′ holders′ waits′ currents′ c
     unfolding changed
-    request-applied k d q = applied (names-request e next k) (request-permitted t e (a .known .shape) (a .unrefused) k) d (rw (a .slot-is) at q) (queue-made t (e .thread) (e .argument) (queues t (e .argument) ++ (e .thread ∷ [])))
+    request-applied k d q = applied (names-request e next k) (request-permitted t e (a .known .shape) (a .unrefused) k) d (rw (a .slot-is) at q) (request-made t (e .thread) (e .argument) (queues t (e .argument) ++ (e .thread ∷ [])))
 
     pub release-applied : (k : e .kind ≡ 5) → {n : ℕ} → Done-with t («V» (e .thread) (e .argument) next) queue′ lengths′ holders′ waits′ currents′ n →
-        c ≡ record { slot = s; count = n } → Applied t e next queue′ lengths′ holders′ waits′ currents′ c
+        c ≡ record { slot = released-slot s; count = n } → Applied t e next queue′ lengths′ holders′ waits′ currents′ c
     unfolding changed
     release-applied k d q = applied (names-release e next k) (release-permitted t e (a .known .shape) (a .unrefused) k (a .follows k)) d (rw (a .slot-is) at q)
-        (queue-made t (e .thread) (e .argument) (leave (queues t (e .argument)) next))
+        (release-made t (e .thread) (e .argument) (leave (queues t (e .argument)) next))

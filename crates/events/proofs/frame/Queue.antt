@@ -21,15 +21,16 @@ use Rattle.table.proofs.sound.Read.{waited, waits-named}
 use Rattle.table.proofs.values.Numbers.{≤-total}
 use Rattle.table.proofs.values.Values.{Good, hops, own-rank, Lawful}
 use Rattle.table.proofs.values.Known.{known-good, known-lawful, known-dead}
-use Rattle.events.specs.Events.{later, with-queue}
+use Rattle.events.specs.Events.{later, with-totals, with-queue}
 use Rattle.events.proofs.queues.Queued.{queues-queued}
+use Rattle.events.proofs.kept.Shapes.{totals-shape}
 use Rattle.events.proofs.kept.Queues.{Queue-fits, queue-short}
 use Rattle.events.proofs.kept.Stays.{queue-good}
 
--- Before: t, which was found sound. After, one event later: cs has the queue q.
-module _ (t : Table) {waiting holders owns currents : List ℕ} (k : Known t waiting holders owns currents) (early : t .clock < 65535) (cs : ℕ) (q : List ℕ) (low : cs < 16) (fits : Queue-fits t cs q) where
+-- Before: t, which was found sound. After, one event later: cs has the queue q, and the threads have these totals.
+module _ (t : Table) {waiting holders owns currents requests releases : List ℕ} (k : Known t waiting holders owns currents) (early : t .clock < 65535) (cs : ℕ) (q : List ℕ) (low : cs < 16) (fits : Queue-fits t cs q requests releases) where
   abbrev pub after : Table
-  after = later (with-queue t cs q)
+  after = later (with-queue (with-totals t requests releases) cs q)
 
   pub after-good : Good after
   after-good = queue-good t (known-good t k) early cs q low fits
@@ -39,9 +40,9 @@ module _ (t : Table) {waiting holders owns currents : List ℕ} (k : Known t wai
 
   pub queues-after : queues after ≡ now-queued
   unfolding with-queue
-  queues-after = queues-queued t cs q (k .shape) low (queue-short t cs q (k .shape) fits) (k .sound .bare .queues-right .lengths)
+  queues-after = queues-queued (with-totals t requests releases) cs q (totals-shape (k .shape) (fits .totals .requests-size) (fits .totals .releases-size)) low (queue-short t cs q (k .shape) fits) (k .sound .bare .queues-right .lengths)
 
-  -- the slots are what they were
+  -- who is live, and the own precedences, are what they were
   pub live-before : (x : ℕ) → x ∈ live after → x ∈ live t
   unfolding with-queue
   live-before x l = l

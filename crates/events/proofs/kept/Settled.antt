@@ -10,7 +10,7 @@ use Rattle.protocol.specs.Sets.{_∈_}
 use Rattle.protocol.specs.Events.{Precedence}
 use Rattle.table.specs.declared.Table.{Table}
 use Rattle.table.specs.Table.{at, live, stored, cprec}
-use Rattle.table.specs.Sound.{Sound}
+use Rattle.table.specs.Sound.{Totals-right, Sound}
 use Rattle.table.specs.code.Shape.{Shape}
 use Rattle.table.specs.Compute.{waits-for, current, runner}
 use Rattle.table.proofs.arrays.Bounds.{beyond}
@@ -33,6 +33,8 @@ settled-shape t s = record {
   current-time-size = tabulate-length 32 _;
   queue-size = s .queue-size;
   length-size = s .length-size;
+  requests-size = s .requests-size;
+  releases-size = s .releases-size;
 }
 
 -- a live thread's stored current precedence is the one that is worked out
@@ -53,9 +55,9 @@ settled-dead t th s n = go (decLt th 32)
     go (no g) = Σ-path (beyond (settled t .«current_priority») th (omega (arith, settled-shape t s .current-priority-size))) (beyond (settled t .«current_time») th (omega (arith, settled-shape t s .current-time-size)))
 
 -- with the defined current precedences stored, the table is sound
-pub settled-sound : (t : Table) → Good t → Sound (settled t)
+pub settled-sound : (t : Table) → Good t → Totals-right t → Sound (settled t)
 unfolding settled
-settled-sound t g = record {
+settled-sound t g totals = record {
   bare = record {
     clock = g .bare .clock;
     priorities = g .bare .priorities;
@@ -68,6 +70,7 @@ settled-sound t g = record {
   };
   dead-stored = λ th n. settled-dead t th (g .shape) n;
   current = λ th l. subst (cprec t th) (sym (settled-live t th (g .shape) l)) (current-defined t g th);
+  totals = record { balance = totals .balance; low = totals .low };
 }
 
 -- two arrays of 32 precedences that agree at every thread are the same

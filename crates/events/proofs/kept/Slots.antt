@@ -1,4 +1,4 @@
--- A slot is written, before the current precedences are worked out: the table is sound in all else. Assumes nothing.
+-- A slot is written, before the current precedences are worked out: the table keeps document 01's other rules. Assumes nothing.
 use Prim.Native.Nat.{ℕ, _+_, _≤_, _<_}
 use mathlib.Core.Path.{_≡_, refl, sym, ap, _∙_}
 use mathlib.Core.Logic.{_≢_, _⊎_, inl, inr, ⊎-elim}
@@ -25,15 +25,15 @@ module _ (t : Table) (th : ℕ) (n : Slot) where
   -- the slot of th is the new one, the others are what they were
   pub slot-there : Shape t → th < 32 → slot (with-slot t th n) th ≡ n
   unfolding with-slot
-  slot-there s low = rw (getD-set-same (t .live) th (n .live) 0 (omega (arith, s .live-size)), getD-set-same (t .priority) th (n .priority) 0 (omega (arith, s .priority-size)), getD-set-same (t .time) th (n .time) 0 (omega (arith, s .time-size)))
+  slot-there s low = rw (getD-set-same (t .live) th (n .live) 0 (omega (arith, s .live-size)), getD-set-same (t .priority) th (n .priority) 0 (omega (arith, s .priority-size)), getD-set-same (t .time) th (n .time) 0 (omega (arith, s .time-size)), getD-set-same (t .requests) th (n .requests) 0 (omega (arith, s .requests-size)), getD-set-same (t .releases) th (n .releases) 0 (omega (arith, s .releases-size)))
 
   pub slot-else : (x : ℕ) → x ≢ th → slot (with-slot t th n) x ≡ slot t x
   unfolding with-slot
-  slot-else x d = rw (getD-set-other (t .live) th x (n .live) 0 d, getD-set-other (t .priority) th x (n .priority) 0 d, getD-set-other (t .time) th x (n .time) 0 d)
+  slot-else x d = rw (getD-set-other (t .live) th x (n .live) 0 d, getD-set-other (t .priority) th x (n .priority) 0 d, getD-set-other (t .time) th x (n .time) 0 d, getD-set-other (t .requests) th x (n .requests) 0 d, getD-set-other (t .releases) th x (n .releases) 0 d)
 
   module _ (s : Shape t) (low : th < 32) where
     -- which of the two it is
-    slot-is : (x : ℕ) → ((x ≡ th) × (slot (with-slot t th n) x ≡ n)) ⊎ (slot (with-slot t th n) x ≡ slot t x)
+    pub slot-is : (x : ℕ) → ((x ≡ th) × (slot (with-slot t th n) x ≡ n)) ⊎ (slot (with-slot t th n) x ≡ slot t x)
     slot-is x = go (ℕ-discrete x th)
       where
         go : Dec (x ≡ th) → ((x ≡ th) × (slot (with-slot t th n) x ≡ n)) ⊎ (slot (with-slot t th n) x ≡ slot t x)

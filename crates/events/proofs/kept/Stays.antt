@@ -13,11 +13,12 @@ use Rattle.table.specs.Sound.{Sound}
 use Rattle.table.specs.code.Shape.{Shape}
 use Rattle.table.proofs.sound.Read.{sound-good}
 use Rattle.table.proofs.values.Values.{Good, bare-good, thread-low}
-use Rattle.events.specs.Events.{settled, later, with-slot, with-queue, changed}
+use Rattle.events.specs.Events.{settled, later, with-slot, with-totals, with-queue, changed}
 use Rattle.events.specs.code.Permits.{Permits, create, exit, set, request, release}
 use Rattle.events.proofs.kept.Shapes.{later-shape, slot-shape}
 use Rattle.events.proofs.kept.Slots.{Slot-fits, slot-bare, create-fits, set-fits, exit-fits}
 use Rattle.events.proofs.kept.Queues.{Queue-fits, fits-shape, later-bare, queue-bare, request-fits, release-fits, release-low}
+use Rattle.events.proofs.kept.Totals.{changed-totals}
 use Rattle.events.proofs.kept.Settled.{settled-shape, settled-sound}
 
 -- a sound table whose arrays have their sizes
@@ -33,11 +34,11 @@ module _ (t : Table) (g : Good t) (early : t .clock < 65535) where
   pub slot-good : (th : ℕ) (n : Slot) → th < 32 → Slot-fits t th n → Good (later (with-slot t th n))
   slot-good th n low f = bare-good (later (with-slot t th n)) (later-shape (slot-shape t th n (g .shape))) (slot-bare t th n (g .shape) low (g .bare) f early)
 
-  pub queue-good : (cs : ℕ) (q : List ℕ) → cs < 16 → Queue-fits t cs q → Good (later (with-queue t cs q))
+  pub queue-good : (cs : ℕ) (q : List ℕ) {requests releases : List ℕ} → cs < 16 → Queue-fits t cs q requests releases → Good (later (with-queue (with-totals t requests releases) cs q))
   unfolding with-queue
-  queue-good cs q low f = bare-good (later (with-queue t cs q)) (later-shape (fits-shape t cs q (g .shape) low f)) (later-bare (queue-bare t cs q (g .shape) (g .bare) low f) early)
+  queue-good cs q low f = bare-good _ (later-shape (fits-shape t cs q (g .shape) low f)) (later-bare (queue-bare t cs q (g .shape) (g .bare) low f) early)
 
-  -- a permitted event keeps all rules but those on the stored current precedences
+  -- a permitted event keeps all rules of document 01 but those on the stored current precedences
   pub changed-good : {ev : Event} → Permits t ev → Good (changed t ev)
   unfolding changed
   changed-good (create {th} {prio} low small new) = slot-good th _ low (create-fits t th prio small)
@@ -48,4 +49,4 @@ module _ (t : Table) (g : Good t) (early : t .clock < 65535) where
 
 -- an accepted event on a sound table gives a sound one
 pub stays-right : (t : Table) → Right t → t .clock < 65535 → {ev : Event} → Permits t ev → Right (settled (changed t ev))
-stays-right t (shape, sound) early {ev} p = let g = changed-good t (sound-good t shape sound) early p in (settled-shape (changed t ev) (g .shape), settled-sound (changed t ev) g)
+stays-right t (shape, sound) early {ev} p = let g = changed-good t (sound-good t shape sound) early p in (settled-shape (changed t ev) (g .shape), settled-sound (changed t ev) g (changed-totals t (sound-good t shape sound) (sound .totals) p))

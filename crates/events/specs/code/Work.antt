@@ -35,4 +35,6 @@ with-current t cp ct = record {
   «current_time» = ct;
   queue = t .queue;
   length = t .length;
+  requests = t .requests;
+  releases = t .releases;
 }

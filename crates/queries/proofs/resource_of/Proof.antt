@@ -15,13 +15,26 @@ use Rattle.queries.proofs.Told.{waiters-are}
 use Rattle.queries.proofs.resource_of.Statement.{statement}
 use Rattle.queries.proofs.resource_of.Tie as tie
 
+-- the two calls of `numbers`, the later one first
+abbrev second : tie.After-check → tie.After-numbers2
+second c = c .before .before .before .before .before .before .before .before .before .before .before .before .before
+
+abbrev first : tie.After-check → tie.After-numbers
+first c = second c .before .before .before .before .before
+
 -- where the function begins
 abbrev start : tie.After-check → tie.Start
-start c = c .before .before .before .before .before .before .before .before .before
+start c = first c .before .before .before .before .before
 
 -- what the test hands on; a table by value has the sizes of its arrays by its type
-checked : (c : tie.After-check) → Checked-right (start c .args .t1) (c .check .result)
-checked c = c .check .ensures (typed-shape _ (start c .good .0))
+checked : (c : tie.After-check) → Checked-right (start c .args .t1) (first c .numbers .result) (second c .numbers2 .result) (c .check .result)
+checked c = c .check .ensures (typed-shape _ (start c .good .0)) (first c .numbers .ensures) (second c .numbers2 .ensures)
+
+numbers-requires : tie.Need-numbers-requires
+numbers-requires c κs = search needs
+
+numbers-requires-2 : tie.Need-numbers-requires-2
+numbers-requires-2 c κs = search needs
 
 check-requires : tie.Need-check-requires
 check-requires c κs = search needs
@@ -45,8 +58,8 @@ returns-2 c =
     let w = c .before .before in
     c .resource-refused2 .ensures ∙ rw (found-sound _ (checked (w .before .before)) (w .before .if1 .left), lt-ltb 15 (start (w .before .before) .args .resource) (omega (arith, w .wide .ensures .0, c .before .if2 .taken)))
 
-element-copy-out-t19 : tie.Need-element-copy-out-t19
-element-copy-out-t19 c = search needs
+element-copy-out-t32 : tie.Need-element-copy-out-t32
+element-copy-out-t32 c = search needs
 
 element-copy-out-waiting : tie.Need-element-copy-out-waiting
 element-copy-out-waiting c = search needs
@@ -69,13 +82,15 @@ pub resource-of-spec : {M : Type 1} → statement M
 resource-of-spec =
     tie.close
     (tie.spec
+    numbers-requires
+    numbers-requires-2
     check-requires
     resource-refused-requires
     returns
     wide-requires
     resource-refused-requires-2
     returns-2
-    element-copy-out-t19
+    element-copy-out-t32
     element-copy-out-waiting
     waiting-requires
     returns-3)

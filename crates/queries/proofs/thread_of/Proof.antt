@@ -1,6 +1,5 @@
 -- `queries::thread_of` meets its contract. Assumes nothing.
-use Prim.Native.Nat.{_<_}
-use mathlib.Core.Path.{_≡_, refl, sym, _∙_}
+use mathlib.Core.Path.{refl, _∙_}
 use native.Mathlib.Omega.{arith}
 use borrow.Author.Needs.{needs}
 use borrow.Author.Tests.{not-false, lt-ltb, le-ltb, eq-eqb, ne-eqb}
@@ -15,13 +14,26 @@ use Rattle.queries.specs.Queries.{thread-refusals, thread-told, thread-a
 use Rattle.queries.proofs.thread_of.Statement.{statement}
 use Rattle.queries.proofs.thread_of.Tie as tie
 
+-- the two calls of `numbers`, the later one first
+abbrev second : tie.After-check → tie.After-numbers2
+second c = c .before .before .before .before .before .before .before .before .before .before .before .before .before
+
+abbrev first : tie.After-check → tie.After-numbers
+first c = second c .before .before .before .before .before
+
 -- where the function begins
 abbrev start : tie.After-check → tie.Start
-start c = c .before .before .before .before .before .before .before .before .before
+start c = first c .before .before .before .before .before
 
 -- what the test hands on; a table by value has the sizes of its arrays by its type
-checked : (c : tie.After-check) → Checked-right (start c .args .t1) (c .check .result)
-checked c = c .check .ensures (typed-shape _ (start c .good .0))
+checked : (c : tie.After-check) → Checked-right (start c .args .t1) (first c .numbers .result) (second c .numbers2 .result) (c .check .result)
+checked c = c .check .ensures (typed-shape _ (start c .good .0)) (first c .numbers .ensures) (second c .numbers2 .ensures)
+
+numbers-requires : tie.Need-numbers-requires
+numbers-requires c κs = search needs
+
+numbers-requires-2 : tie.Need-numbers-requires-2
+numbers-requires-2 c κs = search needs
 
 check-requires : tie.Need-check-requires
 check-requires c κs = search needs
@@ -59,43 +71,58 @@ returns-3 c =
     c .thread-refused3 .ensures
     ∙ rw (found-sound (a .t1) (checked (w .before .before)) (w .before .if1 .left), le-ltb 31 (a .thread) (omega (arith, w .wide .ensures .0, c .before .before .before .if2 .left)), ← w .wide .ensures .0, ne-eqb _ _ (c .before .if3 .taken)) refl
 
-element-copy-out-t19 : tie.Need-element-copy-out-t19
-element-copy-out-t19 c = search needs
+element-copy-out-t32 : tie.Need-element-copy-out-t32
+element-copy-out-t32 c = search needs
 
-mul-t22 : tie.Need-mul-t22
-mul-t22 c = search needs
+mul-t35 : tie.Need-mul-t35
+mul-t35 c = search needs
 
-element-copy-out-t7 : tie.Need-element-copy-out-t7
-element-copy-out-t7 c = search needs
+element-copy-out-t16 : tie.Need-element-copy-out-t16
+element-copy-out-t16 c = search needs
 
-element-copy-out-t27 : tie.Need-element-copy-out-t27
-element-copy-out-t27 c = search needs
+element-copy-out-t40 : tie.Need-element-copy-out-t40
+element-copy-out-t40 c = search needs
 
-mul-t28 : tie.Need-mul-t28
-mul-t28 c = search needs
+mul-t41 : tie.Need-mul-t41
+mul-t41 c = search needs
 
-element-copy-out-t31 : tie.Need-element-copy-out-t31
-element-copy-out-t31 c = search needs
+element-copy-out-t44 : tie.Need-element-copy-out-t44
+element-copy-out-t44 c = search needs
 
-element-copy-out-t34 : tie.Need-element-copy-out-t34
-element-copy-out-t34 c = search needs
+element-copy-out-t47 : tie.Need-element-copy-out-t47
+element-copy-out-t47 c = search needs
 
+mul-t48 : tie.Need-mul-t48
+mul-t48 c = search needs
+
+element-copy-out-t51 : tie.Need-element-copy-out-t51
+element-copy-out-t51 c = search needs
+
+mul-t52 : tie.Need-mul-t52
+mul-t52 c = search needs
+
+element-copy-out-t55 : tie.Need-element-copy-out-t55
+element-copy-out-t55 c = search needs
+
+-- the answer is written out, so that the refusal of a wrong value names it
 returns-4 : tie.Need-returns-4
 unfolding is-live unsound thread-refusals thread-told thread-answer lowest
 returns-4 c =
-    let d = c .before .before .before .before .before in
+    let d = c .before .before .before .before .before .before .before in
     let w = d .before .before .before in
-    let a = start (w .before .before) .args in
+    let t = start (w .before .before) .args .t1 in
+    let i = w .wide .result in
     let k = checked (w .before .before) in
     let known = k .known (not-false _ (w .before .if1 .left)) in
-    let h : a .thread < 32 = omega (arith, w .wide .ensures .0, d .before .before .if2 .left) in
-    let live : at (a .t1 .live) (a .thread) ≡ 1 = rw (w .wide .ensures .0) at (d .if3 .left) in
-    rw (w .wide .ensures .0, found-sound (a .t1) k (w .before .if1 .left), le-ltb 31 (a .thread) (omega arith), eq-eqb _ _ live, current-stored (a .t1) (k .shape) (known .sound) (a .thread) live, sym (known .tracks .waits-right (a .thread) h))
+    rw (found-sound t k (w .before .if1 .left), ← w .wide .ensures .0, le-ltb 31 i (omega arith), eq-eqb _ _ (d .if3 .left), current-stored t (k .shape) (known .sound) i (d .if3 .left))
+    (λ x. record { number = 0; priority = at (t .priority) i; time = at (t .time) i; «current_priority» = at (t .«current_priority») i; «current_time» = at (t .«current_time») i; «waits_for» = known .tracks .waits-right i (omega arith) x; requests = at (t .requests) i; releases = at (t .releases) i })
 
 pub thread-of-spec : {M : Type 1} → statement M
 thread-of-spec =
     tie.close
     (tie.spec
+    numbers-requires
+    numbers-requires-2
     check-requires
     thread-refused-requires
     returns
@@ -105,11 +132,15 @@ thread-of-spec =
     element-copy-out-if3
     thread-refused-requires-3
     returns-3
-    element-copy-out-t19
-    mul-t22
-    element-copy-out-t7
-    element-copy-out-t27
-    mul-t28
-    element-copy-out-t31
-    element-copy-out-t34
+    element-copy-out-t32
+    mul-t35
+    element-copy-out-t16
+    element-copy-out-t40
+    mul-t41
+    element-copy-out-t44
+    element-copy-out-t47
+    mul-t48
+    element-copy-out-t51
+    mul-t52
+    element-copy-out-t55
     returns-4)

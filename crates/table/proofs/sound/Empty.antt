@@ -10,7 +10,8 @@ use Rattle.protocol.proofs.Ways.{every-way}
 use Rattle.table.specs.Table.{at, empty, live, queues}
 use Rattle.table.specs.Sound.{Sound}
 
-zeros : (n i : ℕ) → at (replicate n 0) i ≡ 0
+-- an array of zeros has zeros
+pub zeros : (n i : ℕ) → at (replicate n 0) i ≡ 0
 zeros zero i = refl
 zeros (suc n) zero = refl
 zeros (suc n) (suc i) = zeros n i
@@ -40,4 +41,5 @@ empty-sound = record {
   };
   dead-stored = λ th n. rw (zeros 32 th);
   current = λ th l. absurd (nobody th l);
+  totals = record { balance = λ th l. absurd (nobody th l); low = λ th. (omega (arith, zeros 32 th), omega (arith, zeros 32 th)) };
 }

@@ -25,7 +25,7 @@ use Rattle.table.proofs.sound.Queues.{live-low, taken-low, in-queue, On
 -- beyond the arrays every slot is zero
 pub zero-beyond : (t : Table) → Shape t → (th : ℕ) → 32 ≤ th → Zero-slot t th
 zero-beyond t shape th h = (
-  rw (beyond (t .live) th (omega arith), beyond (t .priority) th (omega arith), beyond (t .time) th (omega arith)),
+  rw (beyond (t .live) th (omega arith), beyond (t .priority) th (omega arith), beyond (t .time) th (omega arith), beyond (t .requests) th (omega arith), beyond (t .releases) th (omega arith)),
   Σ-path (beyond (t .«current_priority») th (omega arith)) (beyond (t .«current_time») th (omega arith)),
 )
 

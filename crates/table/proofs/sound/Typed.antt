@@ -28,4 +28,6 @@ typed-shape t p = let o = owed table.the-type table-laws.the-laws t _ p in recor
   current-time-size = typed-size w16 32 (t .«current_time») (o .1 .1 .1 .1 .1 .0);
   queue-size = typed-size w8 512 (t .queue) (o .1 .1 .1 .1 .1 .1 .0);
   length-size = typed-size w8 16 (t .length) (o .1 .1 .1 .1 .1 .1 .1 .0);
+  requests-size = typed-size w16 32 (t .requests) (o .1 .1 .1 .1 .1 .1 .1 .1 .0);
+  releases-size = typed-size w16 32 (t .releases) (o .1 .1 .1 .1 .1 .1 .1 .1 .1 .0);
 }

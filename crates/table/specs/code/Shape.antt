@@ -8,8 +8,8 @@ use Rattle.table.specs.declared.Table.{Table}
 use Rattle.table.specs.Table.{slot, dead-slot, stored}
 
 -- the table that has these fields
-abbrev pub table-of : ℕ → List ℕ → List ℕ → List ℕ → List ℕ → List ℕ → List ℕ → List ℕ → Table
-table-of clock live priority time cp ct queue lengths = record {
+abbrev pub table-of : ℕ → List ℕ → List ℕ → List ℕ → List ℕ → List ℕ → List ℕ → List ℕ → List ℕ → List ℕ → Table
+table-of clock live priority time cp ct queue lengths requests releases = record {
   clock = clock;
   live = live;
   priority = priority;
@@ -18,6 +18,8 @@ table-of clock live priority time cp ct queue lengths = record {
   «current_time» = ct;
   queue = queue;
   length = lengths;
+  requests = requests;
+  releases = releases;
 }
 
 -- The arrays have the sizes that their types give them.
@@ -29,6 +31,8 @@ pub record Shape (t : Table) : Type 0 where
   pub current-time-size : length (t .«current_time») ≡ 32
   pub queue-size : length (t .queue) ≡ 512
   pub length-size : length (t .length) ≡ 16
+  pub requests-size : length (t .requests) ≡ 32
+  pub releases-size : length (t .releases) ≡ 32
 
 -- a slot that isn't live has zero everywhere
 abbrev pub Zero-slot : Table → Thread → Type 0

@@ -3,7 +3,7 @@ use Prim.Native.Nat.{_≤_}
 use mathlib.Core.Path.{_∙_}
 use borrow.Author.Needs.{needs}
 use Rattle.events.proofs.accepted.Permitted.{low, no-other, create-permitted, exit-permitted, set-permitted, request-permitted, release-permitted}
-use Rattle.apply.proofs.kinds.Arms.{begun, create-applied, exit-applied, set-applied, request-applied, release-applied}
+use Rattle.apply.proofs.kinds.Arms.{begun, totals-early, create-applied, exit-applied, set-applied, request-applied, release-applied}
 use Rattle.apply.proofs.kinds.apply.Statement.{statement}
 use Rattle.apply.proofs.kinds.apply.Tie as tie
 
@@ -46,20 +46,30 @@ set-anew-requires c κs =
 of-requires-3 : tie.Need-of-requires-3
 of-requires-3 c κs = search needs
 
+requested-requires : tie.Need-requested-requires
+requested-requires c κs =
+    let h = c .before in
+    totals-early (h .pre .1 .0) (h .args .e) (h .pre .1 .1) .0
+
 request-requires : tie.Need-request-requires
 request-requires c κs =
-    let h = c .before .before .before .before .before .before in
+    let h = c .before .before .before .before .before .before .before in
     let a = h .pre .1 .1 in
-    (h .pre .0, (h .pre .1 .0, h .args .own .now, begun (h .pre .1 .0) (h .args .e) a (request-permitted (h .pre .1 .0) (h .args .e) (a .known .shape) (a .unrefused) (c .before .before .before .before .before .match .keys4))))
+    (h .pre .0, (h .pre .1 .0, h .args .own .now, begun (h .pre .1 .0) (h .args .e) a (request-permitted (h .pre .1 .0) (h .args .e) (a .known .shape) (a .unrefused) (c .before .before .before .before .before .before .match .keys4))))
 
 of-requires-4 : tie.Need-of-requires-4
 of-requires-4 c κs = search needs
 
+released-requires : tie.Need-released-requires
+released-requires c κs =
+    let h = c .before in
+    totals-early (h .pre .1 .0) (h .args .e) (h .pre .1 .1) .1
+
 release-requires : tie.Need-release-requires
 release-requires c κs =
-    let h = c .before .before .before .before .before .before in
+    let h = c .before .before .before .before .before .before .before in
     let a = h .pre .1 .1 in
-    let k = c .before .before .before .before .before .match .keys5 in
+    let k = c .before .before .before .before .before .before .match .keys5 in
     (h .pre .0, a .place k, (h .pre .1 .0, begun (h .pre .1 .0) (h .args .e) a (release-permitted (h .pre .1 .0) (h .args .e) (a .known .shape) (a .unrefused) k (a .follows k))))
 
 of-requires-5 : tie.Need-of-requires-5
@@ -88,15 +98,15 @@ returns-3 c =
 
 returns-4 : tie.Need-returns-4
 returns-4 c =
-    let m = c .before .before .before .before .before .before .before in
+    let m = c .before .before .before .before .before .before .before .before in
     let e = m .before .args .e in
-    λ t a. request-applied t e a (m .match .keys4) (c .before .request .ensures t _ (begun t e a (request-permitted t e (a .known .shape) (a .unrefused) (m .match .keys4)))) (c .of4 .ensures)
+    λ t a. request-applied t e a (m .match .keys4) (c .before .request .ensures t _ (begun t e a (request-permitted t e (a .known .shape) (a .unrefused) (m .match .keys4)))) (c .of4 .ensures ∙ rw (c .before .before .before .before .before .before .before .requested .ensures))
 
 returns-5 : tie.Need-returns-5
 returns-5 c =
-    let m = c .before .before .before .before .before .before .before in
+    let m = c .before .before .before .before .before .before .before .before in
     let e = m .before .args .e in
-    λ t a. release-applied t e a (m .match .keys5) (c .before .release .ensures t (begun t e a (release-permitted t e (a .known .shape) (a .unrefused) (m .match .keys5) (a .follows (m .match .keys5))))) (c .of5 .ensures)
+    λ t a. release-applied t e a (m .match .keys5) (c .before .release .ensures t (begun t e a (release-permitted t e (a .known .shape) (a .unrefused) (m .match .keys5) (a .follows (m .match .keys5))))) (c .of5 .ensures ∙ rw (c .before .before .before .before .before .before .before .released .ensures))
 
 returns-6 : tie.Need-returns-6
 returns-6 c =
@@ -117,8 +127,10 @@ apply-spec =
     anew-requires
     set-anew-requires
     of-requires-3
+    requested-requires
     request-requires
     of-requires-4
+    released-requires
     release-requires
     of-requires-5
     of-requires-6

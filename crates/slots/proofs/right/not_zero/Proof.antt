@@ -21,7 +21,10 @@ returns-5 : tie.Need-returns-5
 returns-5 c = inr (omega arith, refl)
 
 returns-6 : tie.Need-returns-6
-returns-6 c = inl (omega arith, refl)
+returns-6 c = inr (omega arith, refl)
+
+returns-7 : tie.Need-returns-7
+returns-7 c = inl (omega arith, refl)
 
 pub not-zero-spec : {M : Type 1} → statement M
-not-zero-spec = tie.close (tie.spec returns returns-2 returns-3 returns-4 returns-5 returns-6)
+not-zero-spec = tie.close (tie.spec returns returns-2 returns-3 returns-4 returns-5 returns-6 returns-7)
