@@ -1,3 +1,2 @@
--- What the proofs of the calls share.
-pub mod Lent
+-- What the proofs of the queries share.
 pub mod Query

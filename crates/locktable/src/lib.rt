@@ -6,9 +6,9 @@ ghost use Rattle.queries.specs.Queries.{running-answer, thread-answer, resource
 ghost use Rattle.locks.specs.Answers.{answerOf};
 ghost use Rattle.log.specs.Keep.{Keeps};
 ghost use Rattle.locktable.specs.Four.{four-of};
+use lent::step_lent;
 use locks::Answer;
 use locks::Record;
-use locks::step::step;
 use log::keep;
 use queries::ResourceAnswer;
 use queries::RunningAnswer;
@@ -23,9 +23,7 @@ use table::Table;
 pub extern "C" fn locktable_step(t: &mut Table, e: Record) -> Answer
     ensures { λ r. ⌜ (r ≡ answerOf (now (t .entry)) e .answer) × (now (t .exit) ≡ answerOf (now (t .entry)) e .table) ⌝ }
 {
-    let done = step(*t, e);
-    *t = done.table;
-    done.answer
+    step_lent(t, e)
 }
 
 // A shipment starts: the lent table, whatever it held, is the empty one.

@@ -35,15 +35,12 @@ use Rattle.table.proofs.Table.empty as g
 use Rattle.table.proofs.Table.empty.Symbol as g-def
 use Rattle.table.proofs.Table.empty.Symbol.{name as #table·Table·empty}
 use Rattle.table.proofs.Table.empty.Met as g-thm
-use Rattle.locktable.proofs.Lent.{tval, made, Stated, Walk, meets, ends, holds, asks}
+use Rattle.lent.proofs.Further.{tidy}
+use Rattle.lent.proofs.Lent.{a-table, tval, made, Stated, Walk, meets, ends, holds, asks}
 use Rattle.locktable.proofs.locktable_empty.Key.{name as #locktable·locktable-empty}
 use Rattle.locktable.proofs.locktable_empty as f
 use Rattle.locktable.proofs.locktable_empty.Statement as stated
 use Rattle.locktable.proofs.locktable_empty.Code as code
-
--- a table that is returned is known at its machine value
-tidy : (r : Table) {vs : List Val} → Is T.the-row r vs → Is T.the-row r (tval r ∷ [])
-tidy r {vs} is = LL.owes T.the-type T′.the-laws r (LL.owed T.the-type T′.the-laws r vs is)
 
 module _ {M : Type 1} (𝓤 : URA M) (H : Heap 𝓤) (A : Atoms 𝓤) (W : Given 𝓤 H A) (at-mem : Memory → SProp 𝓤) (run : Routine → Fun 𝓤) (𝓣 : Tables 𝓤 H) (known : Triple 𝓤 (𝓣 .C #table·Table·empty) (Stated 𝓤 H A g.ended (g.clauses 𝓤 H A at-mem run))) where
   module _ (κ : Lft) (q : Share) (b o : ℕ) (γ : GName) (h : Table) where
@@ -61,10 +58,10 @@ module _ {M : Type 1} (𝓤 : URA M) (H : Heap 𝓤) (A : Atoms 𝓤) (W : Given
         -- [_2; …; _1; …; room for _0; …; obs; the borrow; the token]: the borrow is opened
         move ! (6 ∷ 7 ∷ 8 ∷ []) $ opens ! tt T.the-row {h = h} b o (λ vs. holds ! fullShare h vs b o (λ _.
         -- [the table's cell; what it owns; the open borrow; obs; auth; _2; …; _1; …; room for _0; …]: the new table is stored
-        assigns ! (of-opd ! (load ! (from ! (stop !)) (look ! 5 refl))) (from ! (hop ! (look ! 7 refl) (stop !))) (store-raw ! 0 refl (LL.lawful T.the-type T′.the-laws 𝓤 H A W .typed r _ (tidy r is) .0)) $
+        assigns ! (of-opd ! (load ! (from ! (stop !)) (look ! 5 refl))) (from ! (hop ! (look ! 7 refl) (stop !))) (store-raw ! 0 refl (LL.lawful T.the-type T′.the-laws 𝓤 H A W .typed r _ (tidy a-table r v is) .0)) $
         assigns ! (of-opd ! (unit-lit !)) (from ! (stop !)) (init ! 9 refl (tt, tt)) $
         -- and the borrow is closed at it
-        move ! (1 ∷ []) $ drop ! $ owned ! T.the-row (Is T.the-row) (LL.makes T.the-type T′.the-plain 𝓤 H A) r _ (tidy r is) $ move ! (1 ∷ 0 ∷ []) $ closes ! tt T.the-row r (tval r ∷ []) b o $
+        move ! (1 ∷ []) $ drop ! $ owned ! T.the-row (Is T.the-row) (LL.makes T.the-type T′.the-plain 𝓤 H A) r _ (tidy a-table r v is) $ move ! (1 ∷ 0 ∷ []) $ closes ! tt T.the-row r (tval r ∷ []) b o $
         returns ! (look ! 7 refl) $ forget ! 3 refl $ forget ! 5 refl $ forget ! 7 refl $ move ! (7 ∷ 8 ∷ []) $ free1 ! $ move ! (5 ∷ 6 ∷ []) $ free1 ! $ move ! (3 ∷ 4 ∷ []) $ free1 ! $ free0 ! $ keep ! (0 ∷ 2 ∷ []) $
         suffices ! _ (ends 𝓤 H A f.ended (f.clauses 𝓤 H A at-mem run) W y vunit tt (r, tt) (factI 𝓤 _ (emp 𝓤) e)) $
         use1 W (‵ (fres γ (T.the-row .coded .code r))) (W .names .obs-res γ (T.the-row .coded .code r)) $

@@ -1,5 +1,6 @@
 -- `locktable::locktable_resource` meets its contract: it is a query as `Query` says, over `resource_of`. Assumes nothing.
 use mathlib.Core.Path.{refl}
+use mathlib.Core.List.{[], _∷_}
 use base.Logic.{emp}
 use contract.Monad.{factI}
 use contract.Running.{givenOf, tables, tablesOf}
@@ -11,7 +12,8 @@ use Rattle.queries.proofs.ResourceAnswer.Laws as N′
 use Rattle.queries.proofs.resource_of.Symbol as g-def
 use Rattle.queries.proofs.resource_of.Symbol.{name as #queries·resource-of}
 use Rattle.queries.proofs.resource_of.Met as g-thm
-use Rattle.locktable.proofs.Query.{Asked-about, query-about-meets}
+use Rattle.lent.proofs.Further.{byte}
+use Rattle.locktable.proofs.Query.{query-meets}
 use Rattle.locktable.proofs.locktable_resource.Key.{name as #locktable·locktable-resource}
 use Rattle.locktable.proofs.locktable_resource as f
 use Rattle.locktable.proofs.locktable_resource.Statement as stated
@@ -22,6 +24,6 @@ unfolding code.routine tablesOf
 locktable-resource-spec 𝓤 H 𝓜 𝓖 𝓡 =
     entered 𝓤 H (tripleOf 𝓤 H (𝓖 .A) f.signature (f.spec 𝓤 H (𝓖 .A) (𝓜 .mem) (𝓡 .run)))
     (tables 𝓤 H 𝓜 𝓡 code.env .C) (tables 𝓤 H 𝓜 𝓡 code.env .Λ) #locktable·locktable-resource code.function (code.unfolded 𝓤 H 𝓜 𝓡)
-    (query-about-meets N.the-type resource-answer 𝓤 H (𝓖 .A) N′.the-laws N′.the-plain #queries·resource-of (givenOf 𝓤 H 𝓜 𝓖) (tablesOf 𝓤 H 𝓜 (tables 𝓤 H 𝓜 𝓡 code.env))
-    (cited 𝓤 H (Asked-about N.the-type resource-answer 𝓤 H (𝓖 .A)) 𝓜 𝓡 code.env #queries·resource-of g-def.routine code.calls-queries·resource-of (g-thm.met 𝓤 H 𝓜 𝓖 𝓡))
-    (f.clauses 𝓤 H (𝓖 .A) (𝓜 .mem) (𝓡 .run)) (λ _ _ answers. factI 𝓤 _ (emp 𝓤) (answers, refl)))
+    (query-meets N.the-type (byte ∷ []) (λ t a. resource-answer t (a .0)) 𝓤 H (𝓖 .A) N′.the-laws N′.the-plain (givenOf 𝓤 H 𝓜 𝓖) (tablesOf 𝓤 H 𝓜 (tables 𝓤 H 𝓜 𝓡 code.env))
+    (f.clauses 𝓤 H (𝓖 .A) (𝓜 .mem) (𝓡 .run)) (λ _ _ answers. factI 𝓤 _ (emp 𝓤) (answers, refl))
+    #queries·resource-of (cited 𝓤 H _ 𝓜 𝓡 code.env #queries·resource-of g-def.routine code.calls-queries·resource-of (g-thm.met 𝓤 H 𝓜 𝓖 𝓡)))
