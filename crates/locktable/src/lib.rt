@@ -1,5 +1,7 @@
 // The calls of a kernel that keeps its only table and lends it: each calls the by-value function and, where the table changes, stores it
-// back. Exported for C; include/locktable.h declares them.
+// back. Exported for C; include/locktable.h declares them, and include/terminal.h those of the module tasks.
+pub mod tasks;
+
 ghost use mathlib.Core.Path.{_≡_};
 ghost use Rattle.table.specs.Table.{empty};
 ghost use Rattle.queries.specs.Queries.{running-answer, thread-answer, resource-answer};
