@@ -32,7 +32,7 @@ use Rattle.demands.specs.Kept.{Log-says}
 -- In every model of the logic:
 module _ {M : Type 1} (𝓤 : URA M) (H : Heap 𝓤) (A : Atoms 𝓤) (at-mem : Memory → SProp 𝓤) (run : Routine → Fun 𝓤) where
   -- clauses ask nothing, and what they say of the result r and the arguments at exit e is φ
-  abbrev Says : {S : Ended} {κs : Lfts (S .signature .lifetimes)} (c : ClausesAt 𝓤 S κs) → c .ghost → Res (S .signature) κs → AtExit S κs → Type 0 → Type 2
+  abbrev pub Says : {S : Ended} {κs : Lfts (S .signature .lifetimes)} (c : ClausesAt 𝓤 S κs) → c .ghost → Res (S .signature) κs → AtExit S κs → Type 0 → Type 2
   Says c g r e φ = (c .requires g ≡ emp 𝓤) × (c .ensures g r e ≡ fact 𝓤 φ)
 
   -- wherever the kernel keeps its table, which holds t .now when it is lent, for a lifetime κ:

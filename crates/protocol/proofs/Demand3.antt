@@ -55,7 +55,7 @@ valid-from s [] v = v
 valid-from s (e ∷ s′) v = valid-from s s′ (valid-before v)
 
 -- the first moment is one of the moments
-first : (s : State) (s′ : List Event) → Moment s s′ s
+pub first : (s : State) (s′ : List Event) → Moment s s′ s
 first s [] = now
 first s (e ∷ s′) = before (first s s′)
 
