@@ -1,8 +1,9 @@
 /* How often an accepted step of the library copies the table: into the step and out of it, and no third time. The compiler may bring back a
-   third copy without a word when the step grows (docs/DECISIONS.md, "What a call costs").
+   third copy without a word when the step grows (docs/DECISIONS.md, "What a call costs"). For a spare task of the terminal's, which is a step
+   too, it only says how many there are.
    So many bytes are copied by a call of memcpy or memmove, and `bench/run` has the linker lead the library's calls here first (--wrap). */
 #include <stdio.h>
-#include "locktable.h"
+#include "terminal.h"
 
 enum { COPIES = 2 };
 
@@ -57,12 +58,19 @@ static int as_known(const char *name, struct locktable_record record)
     return answer.number == LOCKTABLE_ACCEPTED && seen == COPIES;
 }
 
+static unsigned copies_of_spare(void)
+{
+    copies = 0;
+    struct locktable_answer answer = terminal_spare(&table, TERMINAL_FIRST_SPARE);
+    return answer.number == LOCKTABLE_ACCEPTED ? copies : 0;
+}
+
 int main(void)
 {
     locktable_empty(&table);
     for (size_t i = 0; i < sizeof events / sizeof *events; i++)
         if (!as_known(events[i].name, events[i].record))
             return 1;
-    printf("copies: an accepted step copies the table %u times, whatever the event\n", COPIES);
+    printf("copies: an accepted step copies the table %u times, whatever the event; a spare task %u times\n", COPIES, copies_of_spare());
     return 0;
 }

@@ -19,6 +19,8 @@ static const char usage[] =
     "cost made EVENTS       one event on each of many made tables with up to 32 live threads, most of them waiting\n"
     "cost log FROM TO       the log: in some blocks, the calls that find FROM records there, FROM + 1 and so on to TO, at most 124\n"
     "cost refused N         the log: in these blocks, the calls that find N records there, one byte of them changed\n"
+    "cost terminal WHAT     on the table of a shipment that has just started: `start` starts it anew; `added` is a spare task without a\n"
+    "                       priority, `added_at` one with it, `created` the same by a step, `outside` is refused with 17, `live` with 6\n"
     "N, EVENTS and GAP are at least 1.\n";
 
 enum kind { CREATE, EXIT, SET, P_FREE, P_TAKEN, V_LAST, V_HEIR, REFUSED, KINDS };
@@ -33,6 +35,9 @@ struct side {
     struct locktable_thread_answer (*thread)(const struct locktable *, uint8_t);
     struct locktable_resource_answer (*resource)(const struct locktable *, uint8_t);
     uint8_t (*log)(uint8_t *, size_t, uint32_t, struct locktable_record);
+    struct locktable_answer (*start)(struct locktable *);
+    struct locktable_answer (*spare)(struct locktable *, uint8_t);
+    struct locktable_answer (*spare_at)(struct locktable *, uint8_t, uint8_t);
     _Alignas(64) struct locktable table;
 };
 
@@ -46,12 +51,12 @@ struct side {
 #define STEPS(NAME, CALLS)                                                                                                 \
     STEP(NAME, CALLS, create) STEP(NAME, CALLS, exit) STEP(NAME, CALLS, set) STEP(NAME, CALLS, p_free)                     \
     STEP(NAME, CALLS, p_taken) STEP(NAME, CALLS, v_last) STEP(NAME, CALLS, v_heir) STEP(NAME, CALLS, refused)
-#define SIDE(NAME, CALLS)                                                                                                  \
+#define SIDE(NAME, CALLS, TERMINAL)                                                                                        \
     { .name = #NAME,                                                                                                       \
       .steps = { NAME##_create, NAME##_exit, NAME##_set, NAME##_p_free,                                                    \
                  NAME##_p_taken, NAME##_v_last, NAME##_v_heir, NAME##_refused },                                           \
       .empty = CALLS##_empty, .running = CALLS##_running, .thread = CALLS##_thread, .resource = CALLS##_resource,          \
-      .log = CALLS##_log }
+      .log = CALLS##_log, .start = TERMINAL##_start, .spare = TERMINAL##_spare, .spare_at = TERMINAL##_spare_at }
 
 STEPS(ours, locktable)
 STEPS(fast, fast)
@@ -59,7 +64,9 @@ STEPS(best, best)
 STEPS(nosse, nosse)
 
 /* The library is first. */
-static struct side sides[] = { SIDE(ours, locktable), SIDE(fast, fast), SIDE(best, best), SIDE(nosse, nosse) };
+static struct side sides[] = {
+    SIDE(ours, locktable, terminal), SIDE(fast, fast, fast_terminal), SIDE(best, best, best_terminal), SIDE(nosse, nosse, nosse_terminal),
+};
 enum { SIDES = sizeof sides / sizeof sides[0] };
 static struct locktable *const ours = &sides[0].table;
 static unsigned runs = LOCKTABLE_NOBODY, calls;
@@ -312,6 +319,70 @@ static int log_refused(unsigned records)
     return 0;
 }
 
+/* A call on the table of a shipment, for the task of this id. */
+typedef struct locktable_answer task_call(struct side *s, uint8_t id);
+enum { PRIORITY = 40 };
+
+static struct locktable_answer start(struct side *s, uint8_t id)
+{
+    (void)id;
+    return s->start(&s->table);
+}
+
+static struct locktable_answer spare(struct side *s, uint8_t id) { return s->spare(&s->table, id); }
+
+static struct locktable_answer spare_at(struct side *s, uint8_t id) { return s->spare_at(&s->table, id, PRIORITY); }
+
+static struct locktable_answer create(struct side *s, uint8_t id)
+{
+    return s->steps[CREATE](&s->table, (struct locktable_record){ LOCKTABLE_CREATE, id, PRIORITY, 0 });
+}
+
+/* What is called, for sixteen ids from the first on, and the number that answers it. */
+struct task { const char *what; task_call *call; uint8_t first, number; };
+static const struct task tasks[] = {
+    { "start", start, 0, LOCKTABLE_ACCEPTED },
+    { "added", spare, TERMINAL_FIRST_SPARE, LOCKTABLE_ACCEPTED },
+    { "added_at", spare_at, TERMINAL_FIRST_SPARE, LOCKTABLE_ACCEPTED },
+    { "created", create, TERMINAL_FIRST_SPARE, LOCKTABLE_ACCEPTED },
+    { "outside", spare_at, 0, TERMINAL_NOT_SPARE },
+    { "live", spare_at, TERMINAL_FIRST_SPARE, LOCKTABLE_ALREADY_LIVE },
+};
+
+static const struct task *task_named(const char *what)
+{
+    for (size_t i = 0; i < sizeof tasks / sizeof tasks[0]; i++)
+        if (strcmp(tasks[i].what, what) == 0)
+            return &tasks[i];
+    return 0;
+}
+
+/* The call on all tables, which are as ours is. */
+static void call_task(const struct task *task, uint8_t id)
+{
+    share();
+    for (int i = 0; i < SIDES; i++) {
+        struct locktable_answer a = task->call(&sides[i], id);
+        if (a.number != task->number || memcmp(ours, &sides[i].table, sizeof *ours) != 0) {
+            fprintf(stderr, "cost: %s is not as it should be at call %u\n", sides[i].name, calls + 1);
+            exit(1);
+        }
+    }
+    calls++;
+}
+
+static int terminal(const struct task *task)
+{
+    for (unsigned i = 0; i < TERMINAL_TASKS; i++) {
+        uint8_t id = (uint8_t)(task->first + i);
+        model_terminal_start(ours);
+        if (task->number == LOCKTABLE_ALREADY_LIVE)
+            model_terminal_spare(ours, id);
+        call_task(task, id);
+    }
+    return 0;
+}
+
 /* The number from 1 to the most, or 0 if the word is not one. */
 static unsigned number(const char *word, unsigned most)
 {
@@ -347,6 +418,8 @@ static int history(int words, char **word)
         return log_blocks((unsigned)atoi(word[1]), (unsigned)atoi(word[2]));
     if (words == 2 && strcmp(name, "refused") == 0 && n > 0 && n <= LAST_PLACE)
         return log_refused(n);
+    if (words == 2 && strcmp(name, "terminal") == 0 && task_named(word[1]) != 0)
+        return terminal(task_named(word[1]));
     fputs(usage, stderr);
     return 2;
 }

@@ -1,5 +1,5 @@
-/* The differential test: the library, fast.c, best.c and the model get the same tables, logs and records by chance. After every call the
-   answers and all bytes of the tables and logs must be equal.
+/* The differential test: the library, fast.c, best.c and the model get the same tables, logs, records and spare tasks by chance. After every
+   call the answers and all bytes of the tables and logs must be equal.
      differ [--seed N] [--tests N] [--only N]       tests 1 to N of a seed (6,000 of a fresh one), or only test N
      differ --drill model|fast|best|library FILE..  the listing of each file of records, by one side
      differ --keep model|fast|best|library FILE..   the log of the accepted ones of each, by one side */
@@ -13,8 +13,10 @@
 
 /* Kinds: 0, the five of the header, and all beyond. A count is at most the number of resources: a chain has so many holders. */
 enum { NUMBERS = LOCKTABLE_STILL_HOLDS + 1, OTHER_KINDS = LOCKTABLE_V + 1, KINDS, COUNTS = LOCKTABLE_RESOURCES + 1, ANSWER = 8 };
-enum call { STEP, EMPTY, RUNNING, THREAD, RESOURCE, LOG, CALLS };
-static const char *const call_names[CALLS] = { "step", "empty", "running", "thread", "resource", "log" };
+enum call { STEP, EMPTY, RUNNING, THREAD, RESOURCE, START, SPARE, SPARE_AT, LOG, CALLS };
+static const char *const call_names[CALLS] = {
+    "step", "empty", "running", "thread", "resource", "terminal_start", "terminal_spare", "terminal_spare_at", "log",
+};
 /* What a log call comes to; 0 stands here twice. And the rules of a block that goes on: a bit each in the model's set. */
 enum outcome { FRESH, GOES_ON, RUN_OUT, TOO_SHORT, NOT_AS_SAID, OUTCOMES };
 static const char *const outcome_names[OUTCOMES] = { "0 fresh", "0 going on", "5", "13", "14" };
@@ -23,6 +25,19 @@ static const char *const rule_names[RULES] = { "number", "count", "spare bytes",
 /* What can be wrong with the totals of a table: a bit each in the model's set. */
 enum { WRONGS = 3 };
 static const char *const wrong_names[WRONGS] = { "out of balance", "above the clock", "not zero in a dead slot" };
+/* On which tables a shipment is started. */
+enum started { UNSOUND, UNUSED, IN_USE, STARTS };
+static const char *const started_names[STARTS] = { "an unsound table", "the empty table", "a table in use" };
+/* What has to come of adding a spare task: the answers, and where a refusal goes before others that apply too. */
+enum spare {
+    UNSOUND_FIXED, UNSOUND_BEYOND, UNSOUND_SPARE, FIXED, FIXED_LAST, FIXED_LIVE, FIXED_AT_END, BEYOND_FIRST, BEYOND, BEYOND_AT_END,
+    AT_END, AT_END_LIVE, LIVE, ADDED_FIRST, ADDED, ADDED_LAST, SPARES
+};
+static const char *const spare_names[SPARES] = {
+    "1 for an id below 16", "1 for an id above 31", "1 for a spare id", "17 for an id below 15", "17 for id 15", "17 for a live fixed task",
+    "17 for an id below 16 at the last clock", "17 for id 32", "17 for an id above 32", "17 for an id above 31 at the last clock",
+    "5", "5 for a live spare task", "6", "0 for id 16", "0 for an id between", "0 for id 31",
+};
 
 struct side {
     const char *name;
@@ -32,14 +47,21 @@ struct side {
     struct locktable_thread_answer (*thread)(const struct locktable *, uint8_t);
     struct locktable_resource_answer (*resource)(const struct locktable *, uint8_t);
     uint8_t (*log)(uint8_t *, size_t, uint32_t, struct locktable_record);
+    struct locktable_answer (*start)(struct locktable *);
+    struct locktable_answer (*spare)(struct locktable *, uint8_t);
+    struct locktable_answer (*spare_at)(struct locktable *, uint8_t, uint8_t);
 };
+
+#define SIDE(NAME, CALLS, TERMINAL)                                                                                        \
+    { NAME, CALLS##_step, CALLS##_empty, CALLS##_running, CALLS##_thread, CALLS##_resource, CALLS##_log,                   \
+      TERMINAL##_start, TERMINAL##_spare, TERMINAL##_spare_at }
 
 /* The model is first: it decides. */
 static const struct side sides[] = {
-    { "model", model_step, model_empty, model_running, model_thread, model_resource, model_log },
-    { "fast", fast_step, fast_empty, fast_running, fast_thread, fast_resource, fast_log },
-    { "best", best_step, best_empty, best_running, best_thread, best_resource, best_log },
-    { "library", locktable_step, locktable_empty, locktable_running, locktable_thread, locktable_resource, locktable_log },
+    SIDE("model", model, model_terminal),
+    SIDE("fast", fast, fast_terminal),
+    SIDE("best", best, best_terminal),
+    SIDE("library", locktable, terminal),
 };
 enum { SIDES = sizeof sides / sizeof sides[0] };
 
@@ -48,19 +70,29 @@ static struct {
     unsigned long long calls[CALLS], steps[KINDS][NUMBERS], counts[COUNTS], damaged[2], broken[2], made[2]; /* unsound, sound */
     unsigned long long wrong_alone[WRONGS], at_clock; /* tables unsound by one wrong of totals, sound with a total equal to the clock */
     unsigned long long outcomes[OUTCOMES], alone[RULES], several, places[LOCKTABLE_BLOCK_RECORDS]; /* of log calls */
+    unsigned long long starts[STARTS], spares[2][SPARES]; /* without a priority, with one */
 } run;
 
 /* Mixed twice, so that runs of neighbouring seeds have no test in common. */
 static unsigned long long seed_of(unsigned long long n) { return mix(mix(run.seed) + n); }
 
+/* The step, or a call of the terminal's. A spare task has the record's thread as its id, and the argument as its priority if it is to have
+   one. */
+static struct locktable_answer act(const struct side *s, enum call call, struct locktable *t, struct locktable_record e)
+{
+    switch (call) {
+    case START: return s->start(t);
+    case SPARE: return s->spare(t, e.thread);
+    case SPARE_AT: return s->spare_at(t, e.thread, e.argument);
+    default: return s->step(t, e);
+    }
+}
+
 /* One call of one side, its answer as numbers, so that padding is not compared. The queries get the record's thread byte. */
 static void ask(const struct side *s, enum call call, struct locktable *t, struct locktable_record e, unsigned answer[ANSWER])
 {
     memset(answer, 0, ANSWER * sizeof answer[0]);
-    if (call == STEP) {
-        struct locktable_answer a = s->step(t, e);
-        answer[0] = a.number, answer[1] = a.running, answer[2] = a.count;
-    } else if (call == EMPTY) {
+    if (call == EMPTY) {
         s->empty(t);
     } else if (call == RUNNING) {
         struct locktable_running_answer a = s->running(t);
@@ -70,9 +102,12 @@ static void ask(const struct side *s, enum call call, struct locktable *t, struc
         answer[0] = a.number, answer[1] = a.priority, answer[2] = a.time;
         answer[3] = a.current_priority, answer[4] = a.current_time, answer[5] = a.waits_for;
         answer[6] = a.requests, answer[7] = a.releases;
-    } else {
+    } else if (call == RESOURCE) {
         struct locktable_resource_answer a = s->resource(t, e.thread);
         answer[0] = a.number, answer[1] = a.holder, answer[2] = a.waiters;
+    } else {
+        struct locktable_answer a = act(s, call, t, e);
+        answer[0] = a.number, answer[1] = a.running, answer[2] = a.count;
     }
 }
 
@@ -153,6 +188,57 @@ static void compare_all_queries(struct locktable *t)
         compare_query(RESOURCE, t, i);
 }
 
+static void compare_start(struct locktable *t, unsigned answer[ANSWER])
+{
+    run.starts[!model_sound(t) ? UNSOUND : t->clock == 0 ? UNUSED : IN_USE]++;
+    compare(START, t, (struct locktable_record){ 0, 0, 0, 0 }, answer);
+}
+
+/* Counts what came of adding a spare task to this table. */
+static void note_spare(enum call call, const struct locktable *t, unsigned id, unsigned number)
+{
+    enum { FIRST = TERMINAL_FIRST_SPARE, LAST = TERMINAL_LAST_SPARE, OTHER = TERMINAL_NOT_SPARE };
+    bool fixed = id < FIRST, beyond = id > LAST, at_end = t->clock == LOCKTABLE_EVENTS, live = !beyond && t->live[id] != 0;
+    const bool came[SPARES] = {
+        [UNSOUND_FIXED] = number == LOCKTABLE_NOT_SOUND && fixed,
+        [UNSOUND_BEYOND] = number == LOCKTABLE_NOT_SOUND && beyond,
+        [UNSOUND_SPARE] = number == LOCKTABLE_NOT_SOUND && !fixed && !beyond,
+        [FIXED] = number == OTHER && id < FIRST - 1,
+        [FIXED_LAST] = number == OTHER && id == FIRST - 1,
+        [FIXED_LIVE] = number == OTHER && fixed && live,
+        [FIXED_AT_END] = number == OTHER && fixed && at_end,
+        [BEYOND_FIRST] = number == OTHER && id == LAST + 1,
+        [BEYOND] = number == OTHER && id > LAST + 1,
+        [BEYOND_AT_END] = number == OTHER && beyond && at_end,
+        [AT_END] = number == LOCKTABLE_CLOCK_RUN_OUT,
+        [AT_END_LIVE] = number == LOCKTABLE_CLOCK_RUN_OUT && live,
+        [LIVE] = number == LOCKTABLE_ALREADY_LIVE,
+        [ADDED_FIRST] = number == LOCKTABLE_ACCEPTED && id == FIRST,
+        [ADDED] = number == LOCKTABLE_ACCEPTED && id > FIRST && id < LAST,
+        [ADDED_LAST] = number == LOCKTABLE_ACCEPTED && id == LAST,
+    };
+    for (int i = 0; i < SPARES; i++)
+        run.spares[call == SPARE_AT][i] += came[i];
+}
+
+static void compare_spare(struct dice *d, const struct mood *m, struct locktable *t, unsigned answer[ANSWER])
+{
+    struct locktable before = *t;
+    struct locktable_record e = draw_spare(d, m);
+    enum call call = roll(d, 2) == 0 ? SPARE : SPARE_AT;
+    compare(call, t, e, answer);
+    note_spare(call, &before, e.thread, answer[0]);
+}
+
+/* A spare task, and once in a while a start. */
+static void compare_terminal(struct dice *d, const struct mood *m, struct locktable *t, unsigned answer[ANSWER])
+{
+    if (roll(d, 100) == 0)
+        compare_start(t, answer);
+    else
+        compare_spare(d, m, t, answer);
+}
+
 /* Counts what came up of totals, in a table that breaks these rules. A total may be as high as the clock. */
 static void note_totals(const struct locktable *t, unsigned broken)
 {
@@ -164,15 +250,17 @@ static void note_totals(const struct locktable *t, unsigned broken)
         run.wrong_alone[i] += broken == 1u << i;
 }
 
-/* A record and the queries on a table that stands alone; tells whether it was sound. In one that isn't nobody runs, so any thread may be
-   meant: each kind of event must be refused there. */
+/* A record, a call of the terminal's and the queries on a table that stands alone; tells whether it was sound. In one that isn't nobody
+   runs, so any thread may be meant: each kind of event must be refused there. */
 static bool compare_lone(struct dice *d, const struct mood *m, struct locktable t)
 {
     unsigned broken = model_broken_totals(&t), answer[ANSWER];
     bool sound = broken == 0;
     unsigned acting = sound ? model_running(&t).running : roll(d, LOCKTABLE_THREADS);
+    struct locktable same = t;
     note_totals(&t, broken);
     compare_some_queries(d, &t);
+    compare_terminal(d, m, &same, answer);
     compare(STEP, &t, draw_record(d, m, &t, acting), answer);
     return sound;
 }
@@ -190,7 +278,10 @@ static void history(struct dice *d, const struct mood *m, struct locktable *t, u
 {
     unsigned answer[ANSWER] = { 0, model_running(t).running };
     for (run.event = 1; run.event <= events; run.event++) {
-        compare(STEP, t, draw_record(d, m, t, answer[1]), answer);
+        if (roll(d, 8) == 0)
+            compare_terminal(d, m, t, answer);
+        else
+            compare(STEP, t, draw_record(d, m, t, answer[1]), answer);
         if (roll(d, 4) == 0)
             compare_some_queries(d, t);
         if (roll(d, 2) == 0)
@@ -210,7 +301,17 @@ static void start_with_chain(struct dice *d, struct locktable *t)
     compare(STEP, t, (struct locktable_record){ LOCKTABLE_P, c.thread[LAST_THREAD], c.resource[at], 0 }, answer);
 }
 
-/* One table in two starts empty, one in four is a chain, one in four a made one if it is sound. */
+/* A shipment, on a table of any kind or on the empty one. All ids may come then. */
+static void start_shipment(struct dice *d, struct mood *m, struct locktable *t)
+{
+    unsigned answer[ANSWER];
+    if (roll(d, 2) == 0)
+        compare_query(EMPTY, t, 0);
+    compare_start(t, answer);
+    m->threads = LOCKTABLE_THREADS;
+}
+
+/* One table in two starts empty or as a shipment does, one in four is a chain, one in four a made one if it is sound. */
 static void start(struct dice *d, struct mood *m, struct locktable *t)
 {
     unsigned which = roll(d, 4);
@@ -221,8 +322,11 @@ static void start(struct dice *d, struct mood *m, struct locktable *t)
         m->threads = LOCKTABLE_THREADS;
         m->resources = LOCKTABLE_RESOURCES;
     } else if (which > 1 || !model_sound(t)) {
-        fill_with_noise(d, t); /* so that `empty` has something to clear */
-        compare_query(EMPTY, t, 0);
+        fill_with_noise(d, t); /* so that there is something to clear */
+        if (roll(d, 4) == 0)
+            start_shipment(d, m, t);
+        else
+            compare_query(EMPTY, t, 0);
     }
     if (roll(d, 8) == 0)
         t->clock = (uint16_t)(LOCKTABLE_EVENTS - roll(d, 40));
@@ -441,6 +545,16 @@ static void test(unsigned long long n)
     logs(&d);
 }
 
+static void print_terminal_totals(void)
+{
+    printf("terminal_start on");
+    for (int i = 0; i < STARTS; i++)
+        printf("%s %s: %llu", i > 0 ? "," : "", started_names[i], run.starts[i]);
+    printf("\n%-42s %10s %10s\n", "spare tasks by what came of them", "without", "with");
+    for (int i = 0; i < SPARES; i++)
+        printf("%-42s %10llu %10llu\n", spare_names[i], run.spares[0][i], run.spares[1][i]);
+}
+
 static void print_log_totals(void)
 {
     unsigned places = 0;
@@ -482,6 +596,7 @@ static void print_totals(void)
     for (int i = 0; i < WRONGS; i++)
         printf("%s %s: %llu", i > 0 ? "," : "", wrong_names[i], run.wrong_alone[i]);
     printf("; sound with one equal to the clock: %llu\n", run.at_clock);
+    print_terminal_totals();
     print_log_totals();
 }
 
@@ -513,6 +628,20 @@ static bool all_met_in_totals(void)
     return met;
 }
 
+/* Of the terminal's calls each kind of table for a start, and what can come of a spare task, without a priority and with one. */
+static bool all_met_in_terminal(void)
+{
+    bool met = true;
+    for (int i = 0; i < STARTS; i++)
+        if (run.starts[i] == 0)
+            met = false, printf("FAILED: no shipment was started on %s\n", started_names[i]);
+    for (int with = 0; with < 2; with++)
+        for (int i = 0; i < SPARES; i++)
+            if (run.spares[with][i] == 0)
+                met = false, printf("FAILED: no %s was answered with %s\n", call_names[with ? SPARE_AT : SPARE], spare_names[i]);
+    return met;
+}
+
 /* A run that does not meet every refusal and every count, and an unsound table with every kind, tests less than it says. */
 static bool all_met(void)
 {
@@ -531,6 +660,7 @@ static bool all_met(void)
         if (run.steps[i][LOCKTABLE_NOT_SOUND] == 0)
             met = false, printf("FAILED: no unsound table was given an event of kind %d\n", i);
     met &= all_met_in_totals();
+    met &= all_met_in_terminal();
     return all_met_in_logs() && met;
 }
 

@@ -118,6 +118,24 @@ struct locktable_record draw_busy_record(struct dice *d, const struct mood *m, c
     return live < m->threads ? create_record(d, m, t) : own_record(d, m, t, running);
 }
 
+static unsigned draw_spare_id(struct dice *d)
+{
+    switch (roll(d, 8)) {
+    case 0: return TERMINAL_FIRST_SPARE - roll(d, 2);
+    case 1: return TERMINAL_LAST_SPARE + roll(d, 2);
+    case 2: return roll(d, TERMINAL_TASKS);
+    case 3: return roll(d, 256);
+    default: return TERMINAL_FIRST_SPARE + roll(d, TERMINAL_LAST_SPARE - TERMINAL_FIRST_SPARE + 1);
+    }
+}
+
+struct locktable_record draw_spare(struct dice *d, const struct mood *m)
+{
+    struct locktable_record e = { LOCKTABLE_CREATE, (uint8_t)draw_spare_id(d), 0, 0 };
+    e.argument = chance(d, 50) ? draw_priority(d, m) : (uint8_t)roll(d, 256);
+    return e;
+}
+
 /* A byte of a table, every second one away from the queues, which are most of the bytes. */
 static unsigned draw_byte(struct dice *d)
 {

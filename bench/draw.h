@@ -2,7 +2,7 @@
 #ifndef BENCH_DRAW_H
 #define BENCH_DRAW_H
 #include <stdint.h>
-#include "locktable.h"
+#include "terminal.h"
 
 struct dice { uint64_t state; };
 
@@ -17,6 +17,9 @@ struct mood draw_mood(struct dice *d);
 struct locktable_record draw_record(struct dice *d, const struct mood *m, const struct locktable *t, unsigned running);
 /* An event of the running thread or a Create, never junk; keeps `threads` threads live. */
 struct locktable_record draw_busy_record(struct dice *d, const struct mood *m, const struct locktable *t, unsigned running);
+
+/* A Create for a spare task, with any byte as its id: most often one that a spare task has, or the ids next to these. */
+struct locktable_record draw_spare(struct dice *d, const struct mood *m);
 
 /* Changes 1 to 4 bytes. */
 void damage(struct dice *d, struct locktable *t);

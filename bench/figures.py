@@ -33,6 +33,15 @@ LOGS = {
     'log_block': 'all 125 records of a block, the mean',
     'log_refused': 'refused with 14: one byte of 62 records changed',
 }
+# Of the terminal, on the table of a shipment that has just started: the call, and what it does or why it is refused.
+TASKS = {
+    'terminal_start': ('terminal_start', 'a shipment starts'),
+    'terminal_added': ('terminal_spare', 'a spare task without a priority'),
+    'terminal_added_at': ('terminal_spare_at', 'a spare task with one'),
+    'terminal_created': ('step', 'the same Create'),
+    'terminal_outside': ('terminal_spare_at', 'refused with 17: the id of a fixed task'),
+    'terminal_live': ('terminal_spare_at', 'refused with 6: live already'),
+}
 # What was found by the search, one event each.
 FOUND = ['worst_ours_32', 'worst_fast_32']
 KINDS = {
@@ -41,14 +50,21 @@ KINDS = {
 }
 EVENTS, P, V = ['', 'Create', 'Exit', 'Set', 'P', 'V'], 4, 5
 RESOURCES, MARKS = 16, 64  # MARKS as in crates/slots/src/times.rt
-CALLS = ['step', 'running', 'thread', 'resource', 'empty', 'log']
+CALLS = ['step', 'running', 'thread', 'resource', 'empty', 'log', 'terminal_start', 'terminal_spare', 'terminal_spare_at']
 # How the names of each version's calls begin, and the head of its column.
 VERSIONS = {'locktable': 'ours', 'fast': 'fast.c', 'best': 'best.c', 'nosse': 'fast.c without SSE'}
-# The test whether a table is sound, a function of its own in each version, in the same order; every call on a table but `empty` makes it once.
+THREE = ['locktable', 'fast', 'best']
+# The test whether a table is sound, a function of its own in each version, in the same order; a step and a query make it once.
 TESTS = ['soundness::check::check', 'fast_look', 'best_look', 'nosse_look']
 # A plain C version, measured the same way: what is known of it.
 PLAIN = {('small', 'mean'): 4000, ('contended', 'mean'): 4400, ('chain_of_16', 'worst'): 8500}
 MOST_TO_C, MOST_AT_32, MOST_STACK, MOST_STACK_TO_C = 1.4, 12000, 5120, 256
+
+
+def named(call, versions=VERSIONS):
+    """The functions of one call, one of each version. Ours of the terminal go by that name alone."""
+    ours = call if call.startswith('terminal_') else f'locktable_{call}'
+    return [ours if version == 'locktable' else f'{version}_{call}' for version in versions]
 
 
 def read_counts(path):
@@ -119,7 +135,7 @@ def query_table(counts):
     rows = []
     for name in ('live_2', 'live_8', 'live_32'):
         for call in ('running', 'thread', 'resource'):
-            functions = [f'{version}_{call}' for version in ('locktable', 'fast', 'best')]
+            functions = named(call, THREE)
             rows.append([f'`{functions[0]}`, {WORKLOADS[name]}'] + three(counts[name], *functions))
     return table([''] + THREE_HEAD, rows)
 
@@ -145,19 +161,33 @@ def most_touched(counts):
 def stack_table(touched, depths):
     rows = []
     for call in CALLS:
-        functions = [f'{version}_{call}' for version in ('locktable', 'fast', 'best')]
+        functions = named(call, THREE)
         rows.append([f'`{functions[0]}`'] + [number(stack[function]) for stack in (touched, depths) for function in functions])
     return table(['', 'touched', 'fast.c', 'best.c', 'frames', 'fast.c', 'best.c'], rows)
 
 
+def version_table(rows):
+    """Rows of words and a figure of each version, with how many times as much ours is."""
+    cells = [[r[0]] + [number(x) for x in r[1:]] + [times(r[1], x) for x in r[2:4]] for r in rows]
+    return table([''] + list(VERSIONS.values()) + ['ours / fast.c', 'ours / best.c'], cells)
+
+
 def log_table(counts):
     """The mean of each row's calls, and as the last row the dearest call of all."""
-    rows, functions = [], [f'{version}_log' for version in VERSIONS]
+    rows, functions = [], named('log')
     for name, words in LOGS.items():
         rows.append([words] + [counts[name][function]['mean'] for function in functions])
     rows.append(['the dearest of these'] + [max(counts[name][function]['worst'] for name in LOGS) for function in functions])
-    cells = [[r[0]] + [number(x) for x in r[1:]] + [times(r[1], x) for x in r[2:4]] for r in rows]
-    return table([''] + list(VERSIONS.values()) + ['ours / fast.c', 'ours / best.c'], cells)
+    return version_table(rows)
+
+
+def terminal_table(counts):
+    """The mean of sixteen calls each."""
+    rows = []
+    for name, (call, words) in TASKS.items():
+        functions = named(call)
+        rows.append([f'`{functions[0]}`, {words}'] + [counts[name][function]['mean'] for function in functions])
+    return version_table(rows)
 
 
 def goal_row(words, figure, limit, why):
@@ -222,13 +252,13 @@ Written by `bench/run --figures`; do not edit. Instructions that an x86-64 proce
 included, the C library's memcpy in its SSE2 form. They depend on the compiler and not on the machine or its load; a
 copy's count varies by a few with where it lies. Kit: `{version}`.
 
-"Ours" is the linked library, called as in `include/locktable.h`. The others are the same calls in C, which change the
-table in place: `fast.c` as one writes it for a kernel, and `best.c` with SSE2 by hand, the height to aim at. Both are
-compiled as the library is (`bench/cc64`), by the kit's {compiler} with
+"Ours" is the linked library, called as in `include/locktable.h` and `include/terminal.h`. The others are the same
+calls in C, which change the table in place: `fast.c` as one writes it for a kernel, and `best.c` with SSE2 by hand, the
+height to aim at. Both are compiled as the library is (`bench/cc64`), by the kit's {compiler} with
 `-O3 -march=x86-64 -fPIC -ffunction-sections -fdata-sections`. "fast.c without SSE" is `fast.c` as kernels are
 compiled, by the same clang with `-mgeneral-regs-only -mno-red-zone` besides. All ran in the same process on the same
 events, and their tables and logs were equal after each. Of the C library the C versions call memset alone, to empty a
-table, and in `fast.c` to start a block of the log.
+table, also where a shipment starts, and in `fast.c` to start a block of the log.
 
 A plain C version that is not in this tree was measured at
 {plain},
@@ -290,6 +320,14 @@ with the place in the block. It depends on nothing else, except that a refusal m
 comes last, since only the check tells that a byte has changed.
 
 {logs}
+## The terminal
+
+The calls of `include/terminal.h`, on the table of a shipment that has just started: sixteen live threads, and nobody
+holds or waits. `terminal_start` makes sixteen steps, each with its test whether the table is sound, because it is
+proved from what the step states; C writes down the table that comes of them. It is called once a shipment. A spare
+task is one step, with an id that no spare task has too: that step is refused for the kind of its record.
+
+{terminal}
 ## The step by kind of event
 
 {kinds}## Stack
@@ -312,6 +350,7 @@ or by hand, after it has built the programs once:
     bench/count -f soundness::check::check -f fast_look -f best_look target/bench/cost chain falling 64
     bench/count -f locktable_step -f fast_step target/bench/cost trial bench/worst/ours.table
     bench/count -s -f locktable_log -f fast_log -f best_log target/bench/cost log 1 124
+    bench/count -s -f terminal_start -f fast_terminal_start target/bench/cost terminal start
     bench/stack target/bench/cost
 
 The names of `fast.c` without SSE begin with `nosse_`. `bench/count` with `-f ours_p_taken -f fast_p_taken` and so on
@@ -402,9 +441,10 @@ def page(counts, depths, version, compiler):
     of_step, of_log = step_goals(counts, touched), log_goals(counts, touched)
     return PAGE.format(version=version, compiler=compiler, plain=beside_plain(counts), verdict=verdict(counts, of_step, of_log),
                        goals=table(['', 'ours', 'at most', 'which is', 'met'], of_step + of_log),
-                       step=history_tables(counts, [f'{name}_step' for name in VERSIONS]),
+                       step=history_tables(counts, named('step')),
                        worst=worst_found(counts), sound=history_tables(counts, TESTS),
-                       queries=query_table(counts), logs=log_table(counts), kinds=kind_tables(counts) + '\n',
+                       queries=query_table(counts), logs=log_table(counts), terminal=terminal_table(counts),
+                       kinds=kind_tables(counts) + '\n',
                        stack=stack_table(touched, depths), fast_frames=number(depths['fast_step']))
 
 
@@ -414,7 +454,8 @@ def read_line(path):
 
 def main(folder):
     counts = {name: read_history(f'{folder}/{name}.count', TESTS) for name in WORKLOADS}
-    counts.update({name: read_history(f'{folder}/{name}.count', [f'{version}_log' for version in VERSIONS]) for name in LOGS})
+    counts.update({name: read_history(f'{folder}/{name}.count', named('log')) for name in LOGS})
+    counts.update({name: read_history(f'{folder}/{name}.count', named(call)) for name, (call, _) in TASKS.items()})
     depths = read_depths(f'{folder}/frames')
     print(page(counts, depths, read_line(f'{folder}/version'), read_line(f'{folder}/compiler')), end='')
 

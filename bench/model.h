@@ -1,8 +1,8 @@
-/* The C versions that the library is compared with: the calls of locktable.h under other names. */
+/* The C versions that the library is compared with: the calls of locktable.h and terminal.h under other names. */
 #ifndef BENCH_MODEL_H
 #define BENCH_MODEL_H
 #include <stdbool.h>
-#include "locktable.h"
+#include "terminal.h"
 
 #define DECLARE_CALLS(SIDE)                                                                                                \
     struct locktable_answer SIDE##_step(struct locktable *t, struct locktable_record e);                                   \
@@ -10,7 +10,10 @@
     struct locktable_running_answer SIDE##_running(const struct locktable *t);                                             \
     struct locktable_thread_answer SIDE##_thread(const struct locktable *t, uint8_t thread);                               \
     struct locktable_resource_answer SIDE##_resource(const struct locktable *t, uint8_t resource);                         \
-    uint8_t SIDE##_log(uint8_t *log, size_t size, uint32_t so_far, struct locktable_record e)
+    uint8_t SIDE##_log(uint8_t *log, size_t size, uint32_t so_far, struct locktable_record e);                             \
+    struct locktable_answer SIDE##_terminal_start(struct locktable *t);                                                    \
+    struct locktable_answer SIDE##_terminal_spare(struct locktable *t, uint8_t id);                                        \
+    struct locktable_answer SIDE##_terminal_spare_at(struct locktable *t, uint8_t id, uint8_t priority)
 
 DECLARE_CALLS(model); /* model.c: documents 01 and 02 word by word, slow */
 DECLARE_CALLS(fast);  /* fast.c: as one writes it for a kernel */

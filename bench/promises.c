@@ -1,6 +1,6 @@
-/* What include/locktable.h says of the calls, beyond their answers, and can be tried by running them: which memory they write, how a table
-   comes to its end, what the totals tell, how a kernel keeps its log, and that tables and logs are independent. What it says of the machine
-   code is tried by bench/header. */
+/* What include/locktable.h and include/terminal.h say of the calls, beyond their answers, and can be tried by running them: which memory they
+   write, how a table comes to its end, what the totals tell, how a kernel keeps its log, how a shipment starts and goes on, and that tables and
+   logs are independent. What they say of the machine code is tried by bench/header. */
 #define _DEFAULT_SOURCE /* for mmap and setitimer beside C11 */
 #include <pthread.h>
 #include <signal.h>
@@ -19,6 +19,8 @@ enum { HISTORIES = 300, TURNS = 5000, INTERRUPTS = 300, PATIENCE = 60 };
 
 /* In a block of the log. */
 enum { COUNT_AT = 4, RECORDS_AT = 8, RECORD = sizeof(struct locktable_record) };
+
+static const uint8_t priorities[TERMINAL_TASKS] = TERMINAL_PRIORITIES;
 
 static void expect(bool holds, const char *sentence)
 {
@@ -87,15 +89,34 @@ static int signal_of_child(pid_t child)
     return WEXITSTATUS(status);
 }
 
-/* The signal that ends this step, or with no record this `empty`; 0 if it goes through. */
-static int signal_of(struct locktable *t, const struct locktable_record *e)
+/* A call that writes the table, and the number it answers. Each takes of the record what it needs; `empty` has no answer. */
+typedef uint8_t call(struct locktable *t, struct locktable_record e);
+
+static uint8_t step(struct locktable *t, struct locktable_record e) { return locktable_step(t, e).number; }
+
+static uint8_t empty(struct locktable *t, struct locktable_record e)
+{
+    (void)e;
+    locktable_empty(t);
+    return LOCKTABLE_ACCEPTED;
+}
+
+static uint8_t start(struct locktable *t, struct locktable_record e)
+{
+    (void)e;
+    return terminal_start(t).number;
+}
+
+static uint8_t spare(struct locktable *t, struct locktable_record e) { return terminal_spare(t, e.thread).number; }
+
+static uint8_t spare_at(struct locktable *t, struct locktable_record e) { return terminal_spare_at(t, e.thread, e.argument).number; }
+
+/* The signal that ends this call; 0 if it goes through. */
+static int signal_of(call *does, struct locktable *t, struct locktable_record e)
 {
     pid_t child = new_child();
     if (child == 0) {
-        if (e != 0)
-            locktable_step(t, *e);
-        else
-            locktable_empty(t);
+        does(t, e);
         _exit(0);
     }
     return signal_of_child(child);
@@ -112,14 +133,14 @@ static struct locktable two_holders(void)
     return t;
 }
 
-/* The step is refused with this number, changes nothing, and needs to write all the same. */
-static void refused_and_stored(const struct locktable *table, struct locktable_record e, uint8_t number)
+/* The call is refused with this number, changes nothing, and needs to write all the same. */
+static void refused_and_stored(call *does, const struct locktable *table, struct locktable_record e, uint8_t number)
 {
     struct locktable *t = on_page(table, PROT_READ | PROT_WRITE);
-    expect(locktable_step(t, e).number == number, "each refusal has its number");
-    expect(memcmp(t, table, sizeof *t) == 0, "a refused step changes no byte");
-    expect(signal_of(t, &e) == 0, "a refused step goes through on a page that may be written");
-    expect(signal_of(on_page(table, PROT_READ), &e) == SIGSEGV, "a refused step stores the table back");
+    expect(does(t, e) == number, "each refusal has its number");
+    expect(memcmp(t, table, sizeof *t) == 0, "a refused step or spare task changes no byte");
+    expect(signal_of(does, t, e) == 0, "a refused step or spare task goes through on a page that may be written");
+    expect(signal_of(does, on_page(table, PROT_READ), e) == SIGSEGV, "a refused step or spare task stores the table back");
 }
 
 static void refused_steps_store(void)
@@ -138,14 +159,50 @@ static void refused_steps_store(void)
     struct locktable_record release = { LOCKTABLE_V, 1, 1, 0 };
     struct locktable table = two_holders(), last = table, unsound = table;
     for (size_t i = 0; i < sizeof refusals / sizeof *refusals; i++)
-        refused_and_stored(&table, refusals[i].record, refusals[i].number);
+        refused_and_stored(step, &table, refusals[i].record, refusals[i].number);
     last.clock = LOCKTABLE_EVENTS;
-    refused_and_stored(&last, release, LOCKTABLE_CLOCK_RUN_OUT);
+    refused_and_stored(step, &last, release, LOCKTABLE_CLOCK_RUN_OUT);
     unsound.live[9] = 2;
-    refused_and_stored(&unsound, release, LOCKTABLE_NOT_SOUND);
-    expect(signal_of(on_page(&table, PROT_READ), &release) == SIGSEGV, "an accepted step stores the table");
-    expect(signal_of(on_page(&table, PROT_READ), 0) == SIGSEGV, "locktable_empty stores the table");
+    refused_and_stored(step, &unsound, release, LOCKTABLE_NOT_SOUND);
+    expect(signal_of(step, on_page(&table, PROT_READ), release) == SIGSEGV, "an accepted step stores the table");
+    expect(signal_of(empty, on_page(&table, PROT_READ), release) == SIGSEGV, "locktable_empty stores the table");
     printf("promises: a step writes the table, refused or not: with each of the numbers 1 to 11\n");
+}
+
+/* A spare task with this id, without a priority and with one. */
+static void spare_refused(const struct locktable *table, uint8_t id, uint8_t number)
+{
+    struct locktable_record e = { LOCKTABLE_CREATE, id, 90, 0 };
+    refused_and_stored(spare, table, e, number);
+    refused_and_stored(spare_at, table, e, number);
+}
+
+/* Fixed tasks are live, and so is the first spare one. Where several numbers apply, the first of 1, 17, 5 and 6 is given. */
+static void refused_spares_store(void)
+{
+    enum { BEFORE = TERMINAL_FIRST_SPARE - 1, LIVE = TERMINAL_FIRST_SPARE, DEAD = TERMINAL_LAST_SPARE, BEYOND = TERMINAL_LAST_SPARE + 1 };
+    struct locktable table, last, unsound;
+    struct locktable_record added = { LOCKTABLE_CREATE, DEAD, 90, 0 };
+    terminal_start(&table);
+    expect(terminal_spare(&table, LIVE).number == LOCKTABLE_ACCEPTED, "a spare task can be added");
+    static const uint8_t others[] = { TERMINAL_DRAW, BEFORE, BEYOND, UINT8_MAX };
+    last = unsound = table;
+    last.clock = LOCKTABLE_EVENTS;
+    unsound.clock = LOCKTABLE_EVENTS;
+    unsound.live[9] = 2;
+    for (size_t i = 0; i < sizeof others; i++) {
+        spare_refused(&table, others[i], TERMINAL_NOT_SPARE);
+        spare_refused(&last, others[i], TERMINAL_NOT_SPARE);
+        spare_refused(&unsound, others[i], LOCKTABLE_NOT_SOUND);
+    }
+    spare_refused(&table, LIVE, LOCKTABLE_ALREADY_LIVE);
+    spare_refused(&last, LIVE, LOCKTABLE_CLOCK_RUN_OUT);
+    spare_refused(&last, DEAD, LOCKTABLE_CLOCK_RUN_OUT);
+    spare_refused(&unsound, LIVE, LOCKTABLE_NOT_SOUND);
+    expect(signal_of(spare, on_page(&table, PROT_READ), added) == SIGSEGV, "a spare task that is added without a priority stores the table");
+    expect(signal_of(spare_at, on_page(&table, PROT_READ), added) == SIGSEGV, "one that is added with a priority stores the table");
+    expect(signal_of(start, on_page(&table, PROT_READ), added) == SIGSEGV, "terminal_start stores the table");
+    printf("promises: a spare task writes the table, refused or not: with each of the numbers 1, 17, 5 and 6\n");
 }
 
 static void queries_only_read(void)
@@ -580,6 +637,196 @@ static void changes_are_noticed(void)
     printf("promises: the log notices each of %u changes of a byte and of %u exchanges of two\n", changes, exchanges);
 }
 
+/* A table of any kind: all ones, zeros, one in use, or noise. */
+static struct locktable any_table(struct dice *d, int kind)
+{
+    struct locktable t = two_holders();
+    switch (kind % 4) {
+    case 0: memset(&t, UINT8_MAX, sizeof t); break;
+    case 1: locktable_empty(&t); break;
+    case 2: break;
+    default: fill_with_noise(d, &t); break;
+    }
+    return t;
+}
+
+static void shipments_start(void)
+{
+    struct dice d = { 9 };
+    struct locktable want;
+    locktable_empty(&want);
+    for (unsigned id = 0; id < TERMINAL_TASKS; id++)
+        expect(number_of(&want, LOCKTABLE_CREATE, id, priorities[id]) == LOCKTABLE_ACCEPTED, "the fixed tasks can be created one by one");
+    for (int i = 0; i < HISTORIES; i++) {
+        struct locktable held = any_table(&d, i), *t = on_page(&held, PROT_READ | PROT_WRITE);
+        struct locktable_answer a = terminal_start(t);
+        expect(a.number == LOCKTABLE_ACCEPTED && a.running == TERMINAL_DRAW && a.count == 1, "a start answers as the last Create does");
+        expect(memcmp(t, &want, sizeof want) == 0, "a start leaves what the Creates of the fixed tasks make of the empty table");
+    }
+    expect(want.clock == 16 && locktable_running(&want).running == 0, "after the start the clock is 16 and task 0 runs");
+    printf("promises: a shipment starts as by sixteen steps on the empty table, %d times, whatever the table held\n", HISTORIES);
+}
+
+/* Whether the one's current precedence is above the other's. */
+static bool above(const struct locktable *t, uint8_t one, uint8_t other)
+{
+    struct locktable_thread_answer a = locktable_thread(t, one), b = locktable_thread(t, other);
+    return a.current_priority > b.current_priority || (a.current_priority == b.current_priority && a.current_time < b.current_time);
+}
+
+/* The order at the start; then tasks end and come back, fixed ones by the step, spare ones by the call that added them. */
+static void tasks_come_back(void)
+{
+    struct locktable t;
+    terminal_start(&t);
+    for (uint8_t one = 0; one < TERMINAL_TASKS; one++)
+        for (uint8_t other = one + 1; other < TERMINAL_TASKS; other++)
+            expect(above(&t, one, other), "at the start each fixed task's precedence is above that of all after it");
+    for (unsigned id = 0; id < TERMINAL_TASKS; id++)
+        expect(number_of(&t, LOCKTABLE_EXIT, id, 0) == LOCKTABLE_ACCEPTED, "one fixed task after the other runs, and may end");
+    for (unsigned id = TERMINAL_TASKS; id-- > 0;)
+        expect(number_of(&t, LOCKTABLE_CREATE, id, priorities[id]) == LOCKTABLE_ACCEPTED, "a fixed task that has ended comes back");
+    for (int turn = 0; turn < 2; turn++)
+        for (unsigned id = TERMINAL_FIRST_SPARE; id <= TERMINAL_LAST_SPARE; id++) {
+            expect(terminal_spare_at(&t, (uint8_t)id, 255).running == id, "a spare task above the others runs");
+            expect(number_of(&t, LOCKTABLE_EXIT, id, 0) == LOCKTABLE_ACCEPTED, "a spare task may end, and its id be used again");
+        }
+    expect(locktable_running(&t).running == TERMINAL_DRAW, "the draw runs again when it has come back");
+    printf("promises: fixed tasks start in their order, and come back after they end, as spare ones do\n");
+}
+
+/* An event by chance or a spare task, with no Create or Set above the most, and none that is the draw's own. */
+static void mild_event(struct dice *d, const struct mood *m, struct locktable *t, unsigned most)
+{
+    bool spare = roll(d, 8) == 0;
+    struct locktable_record e = spare ? draw_spare(d, m) : draw_record(d, m, t, locktable_running(t).running);
+    if (e.kind == LOCKTABLE_CREATE || e.kind == LOCKTABLE_SET)
+        e.argument = (uint8_t)(e.argument % (most + 1));
+    if (spare)
+        terminal_spare_at(t, e.thread, e.argument);
+    else if (e.thread != TERMINAL_DRAW || e.kind == LOCKTABLE_P || e.kind == LOCKTABLE_V)
+        locktable_step(t, e);
+}
+
+static void draw_runs_from_the_start(struct dice *d, const struct mood *m, struct locktable *t)
+{
+    terminal_start(t);
+    for (unsigned events = roll(d, 200); events > 0; events--) {
+        mild_event(d, m, t, priorities[TERMINAL_DRAW]);
+        expect(locktable_running(t).running == TERMINAL_DRAW, "from the start on the draw runs until it is set or ended");
+    }
+}
+
+/* A set of those who hold or wait: bit i for thread i. */
+static uint32_t in_queues(const struct locktable *t)
+{
+    uint32_t set = 0;
+    for (unsigned r = 0; r < LOCKTABLE_RESOURCES; r++)
+        for (unsigned i = 0; i < t->length[r]; i++)
+            set |= (uint32_t)1 << t->queue[LOCKTABLE_THREADS * r + i];
+    return set;
+}
+
+/* Whether it has the draw's place: only who has held or waited since the draw came may run instead of it, and at its precedence. */
+static bool runs_for_draw(const struct locktable *t, unsigned thread, uint32_t since)
+{
+    struct locktable_thread_answer one = locktable_thread(t, (uint8_t)thread), draw = locktable_thread(t, TERMINAL_DRAW);
+    return (since >> thread & 1) != 0 && one.current_priority == draw.priority && one.current_time == draw.time;
+}
+
+/* Others take locks while the draw is away; then it comes back. Gives how often another ran from then on. */
+static int draw_comes_back(struct dice *d, const struct mood *m, struct locktable *t)
+{
+    int others = 0;
+    terminal_start(t);
+    expect(number_of(t, LOCKTABLE_EXIT, TERMINAL_DRAW, 0) == LOCKTABLE_ACCEPTED, "the draw may end");
+    for (unsigned events = roll(d, 200); events > 0; events--)
+        mild_event(d, m, t, priorities[TERMINAL_DRAW] - 1);
+    expect(number_of(t, LOCKTABLE_CREATE, TERMINAL_DRAW, priorities[TERMINAL_DRAW]) == LOCKTABLE_ACCEPTED, "the draw comes back");
+    uint32_t since = in_queues(t);
+    for (unsigned events = roll(d, 200); events > 0; events--) {
+        mild_event(d, m, t, priorities[TERMINAL_DRAW]);
+        since &= in_queues(t);
+        unsigned running = locktable_running(t).running;
+        expect(running == TERMINAL_DRAW || runs_for_draw(t, running, since), "nobody who came later runs ahead of the draw");
+        others += running != TERMINAL_DRAW;
+    }
+    return others;
+}
+
+static void draw_is_first(void)
+{
+    struct dice d = { 10 };
+    struct locktable t;
+    int others = 0;
+    for (int i = 0; i < HISTORIES; i++) {
+        struct mood m = { LOCKTABLE_THREADS, 1 + roll(&d, 6), 256, 2 };
+        draw_runs_from_the_start(&d, &m, &t);
+        others += draw_comes_back(&d, &m, &t);
+    }
+    expect(others > 0, "at times another runs, while the draw waits");
+    printf("promises: the draw runs from the start on; in its place only who held or waited when it came, %d times\n", others);
+}
+
+/* The log of a shipment begins with the fixed tasks, as the header has it. */
+static void start_and_keep(struct locktable *table, uint8_t *log, size_t size)
+{
+    expect(terminal_start(table).number == LOCKTABLE_ACCEPTED, "a shipment starts");
+    for (uint8_t id = 0; id < TERMINAL_TASKS; id++) {
+        struct locktable_record e = { LOCKTABLE_CREATE, id, priorities[id], 0 };
+        expect(locktable_log(log, size, id, e) == LOCKTABLE_ACCEPTED, "the log takes the fixed tasks");
+    }
+}
+
+/* What steps make of the empty table by the records of a log. */
+static struct locktable read_back(const uint8_t *log, uint32_t records)
+{
+    struct locktable t;
+    locktable_empty(&t);
+    for (uint32_t n = 0; n < records; n++) {
+        const uint8_t *at = log + LOCKTABLE_BLOCK * (n / LOCKTABLE_BLOCK_RECORDS) + RECORDS_AT + RECORD * (n % LOCKTABLE_BLOCK_RECORDS);
+        struct locktable_record e = { at[0], at[1], at[2], at[3] };
+        expect(locktable_step(&t, e).number == LOCKTABLE_ACCEPTED, "what the log has is accepted again");
+    }
+    return t;
+}
+
+/* A spare task, without a priority or with one, and its record, which has the priority that it got. */
+static struct locktable_answer add_spare(struct dice *d, struct locktable *table, struct locktable_record *e)
+{
+    if (roll(d, 2) == 0)
+        return terminal_spare_at(table, e->thread, e->argument);
+    e->argument = TERMINAL_SPARE_PRIORITY;
+    return terminal_spare(table, e->thread);
+}
+
+/* A log that is kept as the header has it leads to the same table by steps alone. */
+static void shipments_are_logged(void)
+{
+    enum { MOST = 600, SIZE = LOCKTABLE_BLOCK * LOCKTABLE_LOG_BLOCKS(TERMINAL_TASKS + MOST) };
+    static uint8_t log[SIZE];
+    struct dice d = { 11 };
+    struct locktable table, again;
+    int spares = 0;
+    draw_bytes(&d, log, sizeof log);
+    for (int i = 0; i < HISTORIES; i++) {
+        struct mood m = { LOCKTABLE_THREADS, LOCKTABLE_RESOURCES, 256, 5 };
+        start_and_keep(&table, log, sizeof log);
+        for (unsigned events = roll(&d, MOST); events > 0; events--) {
+            bool spare = roll(&d, 8) == 0;
+            struct locktable_record e = spare ? draw_spare(&d, &m) : draw_record(&d, &m, &table, locktable_running(&table).running);
+            struct locktable_answer a = spare ? add_spare(&d, &table, &e) : locktable_step(&table, e);
+            if (a.number != LOCKTABLE_ACCEPTED)
+                continue;
+            expect(locktable_log(log, sizeof log, table.clock - 1u, e) == LOCKTABLE_ACCEPTED, "the log takes what the table has taken");
+            spares += spare;
+        }
+        again = read_back(log, table.clock);
+        expect(memcmp(&again, &table, sizeof table) == 0, "the log of a shipment leads to its table");
+    }
+    printf("promises: the log of a shipment leads to its table by steps alone, %d times, with %d spare tasks\n", HISTORIES, spares);
+}
+
 /* A history that goes on by itself: each event depends on its own table and dice alone. `heard` takes in all answers. */
 struct player {
     struct locktable table;
@@ -600,16 +847,28 @@ static struct player new_player(uint64_t seed)
     return p;
 }
 
-static void play(struct player *p)
+/* A table begins anew when it has come to its end, and every once in a while before that as a shipment. */
+static void begin_at_times(struct player *p)
 {
     if (LOCKTABLE_EVENTS_LEFT(&p->table) == 0)
         locktable_empty(&p->table);
+    if (roll(&p->dice, 400) > 0)
+        return;
+    in_a_call = 1;
+    start_and_keep(&p->table, p->log, sizeof p->log);
+    in_a_call = 0;
+}
+
+static void play(struct player *p)
+{
+    begin_at_times(p);
     in_a_call = 1;
     unsigned running = locktable_running(&p->table).running;
     in_a_call = 0;
-    struct locktable_record e = draw_record(&p->dice, &p->mood, &p->table, running);
+    bool spare = roll(&p->dice, 8) == 0;
+    struct locktable_record e = spare ? draw_spare(&p->dice, &p->mood) : draw_record(&p->dice, &p->mood, &p->table, running);
     in_a_call = 1;
-    struct locktable_answer a = locktable_step(&p->table, e);
+    struct locktable_answer a = spare ? add_spare(&p->dice, &p->table, &e) : locktable_step(&p->table, e);
     struct locktable_thread_answer thread = locktable_thread(&p->table, e.thread);
     struct locktable_resource_answer resource = locktable_resource(&p->table, e.argument);
     uint8_t logged = a.number != LOCKTABLE_ACCEPTED ? a.number : locktable_log(p->log, sizeof p->log, p->table.clock - 1u, e);
@@ -701,6 +960,7 @@ int main(void)
     setvbuf(stdout, 0, _IOLBF, BUFSIZ);
     signal(SIGSEGV, on_fault);
     refused_steps_store();
+    refused_spares_store();
     queries_only_read();
     clock_runs_out();
     tables_drain();
@@ -713,6 +973,10 @@ int main(void)
     logs_come_to_their_end();
     logs_move();
     changes_are_noticed();
+    shipments_start();
+    tasks_come_back();
+    draw_is_first();
+    shipments_are_logged();
     tables_in_turn();
     tables_at_once();
     tables_in_interrupts();

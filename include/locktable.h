@@ -8,6 +8,7 @@
  * You keep the table, a `struct locktable` of 882 bytes, and lend it to each call. Begin with
  * locktable_empty; then call locktable_step for each event. Three queries read the table. locktable_log
  * writes an accepted event to a log, in a buffer that is yours too. examples/kernel.c is a toy kernel.
+ * terminal.h is a layer above, with tasks that every shipment starts with.
  *
  * For C11 or C++11 and later, on x86-64; link liblocktable.a (README.md, "From C").
  *
@@ -47,14 +48,14 @@
  *     than 2,000. bench/FIGURES.md has the figures. They are measured, and the worst is looked for, not
  *     proved.
  *   - What the calls do and answer, as this file says it, is proved for every table, every buffer and
- *     every argument: in crates/locktable/src/lib.rt that a call does to what it is lent what the function
- *     does that it calls; in crates/locks/src/step.rt and crates/queries/src/lib.rt what that function
- *     answers and makes of the table, in the terms that the specs of crates locks, queries, events,
- *     refusals and table define; in crates/log/src/lib.rt what it answers and makes of the log, in the
- *     terms that the specs of that crate define (Block, Card and Keep); in crates/demands that this is the
- *     paper's protocol, that the totals are those of the events, and what every call leaves on any table
- *     (specs/Fixed.antt): that an accepted event leaves a sound table, and that a count is at most 16, are
- *     there too.
+ *     every argument: in crates/locktable/src/lib.rt and crates/lent that a call does to what it is lent
+ *     what the function does that it calls; in crates/locks/src/step.rt and crates/queries/src/lib.rt what
+ *     that function answers and makes of the table, in the terms that the specs of crates locks, queries,
+ *     events, refusals and table define; in crates/log/src/lib.rt what it answers and makes of the log, in
+ *     the terms that the specs of that crate define (Block, Card and Keep); in crates/demands that this is
+ *     the paper's protocol, that the totals are those of the events, and what every call leaves on any
+ *     table (specs/Fixed.antt): that an accepted event leaves a sound table, and that a count is at most
+ *     16, are there too.
  *   - Not proved are what a call needs, its time, which memory it touches, that there is no other state,
  *     how long a drain takes and the layout (the last two are below). bench/run tries them. */
 #ifndef LOCKTABLE_H
@@ -107,8 +108,7 @@ extern "C" {
  * Ready is a live thread that doesn't wait. Running is, of the ready threads, the one whose current
  * precedence is the highest; in a sound table with any live thread there is just one.
  *
- * Read the table if you like, by the queries better; only locktable_step and locktable_empty should write
- * it. */
+ * Read the table if you like, by the queries better; only the calls should write it. */
 struct locktable {
     /* how many events were accepted, and the time of the next one */
     uint16_t clock;
@@ -206,6 +206,7 @@ enum locktable_number {
     /* of the log alone, see there: the buffer ends before the block does that takes the record */
     LOCKTABLE_LOG_TOO_SHORT = 13,
     LOCKTABLE_LOG_NOT_AS_SAID = 14 /* that block is not as the records before have left it */
+    /* 17 is a refusal of the layer above: terminal.h */
 };
 
 /* THE END OF A TABLE
