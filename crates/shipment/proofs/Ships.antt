@@ -1,21 +1,22 @@
 -- Demand 2 with the terminal's calls: specs/Ships has the statement. Assumes nothing.
 use Prim.Native.Nat.{ℕ, _≤_, _<_}
-use mathlib.Core.Path.{_≡_, refl, sym, subst}
+use mathlib.Core.Path.{_≡_, refl, sym, ap, subst, _∙_}
 use mathlib.Core.Logic.{_↔_, by-cases}
-use mathlib.Core.List.{List, _∷_}
+use mathlib.Core.List.{List, [], _∷_, _++_}
 use native.Mathlib.Decide.{decLt}
 use native.Mathlib.Omega.{arith}
 use lib.ListN.{length}
 use Rattle.protocol.specs.Sets.{_∈_, Names}
-use Rattle.protocol.specs.Events.{State, threads}
+use Rattle.protocol.specs.Events.{Event, Create, State, threads}
 use Rattle.table.specs.declared.Table.{Table}
 use Rattle.table.specs.Table as table
 use Rattle.table.specs.Sound.{Sound}
 use Rattle.locks.specs.declared.Answer.{Answer}
+use Rattle.terminal.specs.Spare.{priority-of}
 use Rattle.terminal.specs.declared.spare.Wanted.{Wanted}
 use Rattle.demands.specs.Memory.{Any-table}
 use Rattle.demands.specs.Calls.{Left, Calls}
-use Rattle.demands.specs.Runs.{table-after}
+use Rattle.demands.specs.Runs.{event, ask, table-after}
 use Rattle.demands.specs.Stated.{As-stated}
 use Rattle.demands.specs.Demand2.{After}
 use Rattle.demands.specs.Told.{Shows}
@@ -24,7 +25,7 @@ use Rattle.demands.proofs.Same.{names-running}
 use Rattle.demands.proofs.Reached.{reached, history-one}
 use Rattle.demands.proofs.Demand2.{demand-2, after}
 use Rattle.shipment.specs.Calls.{Terminal, adds, Any-wanted, As-told}
-use Rattle.shipment.specs.Shipped.{Act, add, Any-acts, table-since, Shipped}
+use Rattle.shipment.specs.Shipped.{Act, call, add, Any-acts, table-since, Shipped, accepted, refused, asked, added, turned-away}
 use Rattle.shipment.specs.Fixed as fixed
 use Rattle.shipment.specs.Fixed.{Spare-fixed}
 use Rattle.shipment.specs.Ships.{calls-of, Ships, Demand-2-since}
@@ -97,3 +98,19 @@ pub demand-2-since : (c : Calls) → As-stated c → (k : Terminal) → As-told 
 demand-2-since c is k told t held acts any =
     let w = demand-2 c is t held (calls-of acts) (bytes-of acts any) in
     (w .0, ships c is k told t held acts any (as-shipped c is t held k told acts any (w .1 .history)))
+
+-- The events accepted since stand before those of a moment: so there are the s and s′ of specs/Draw, whatever the acts.
+module _ (c : Calls) (k : Terminal) (d : Demand-2-since c k) (t : Table) (held : Any-table t) where
+  pub events-added : (acts acts′ : List Act) → Any-acts (acts′ ++ acts) → {s S : State} → Shipped c k t acts s → Shipped c k t (acts′ ++ acts) S → (s′ : List Event) × (S ≡ s′ ++ s)
+  events-added acts [] any {s} {S} past now = let w = d t held acts any .1 in ([], w .only S now ∙ sym (w .only s past))
+  events-added acts (call (event e) ∷ acts′) any past (accepted {ev = ev} now z v) = let r = events-added acts acts′ (any .1) past now in (ev ∷ r .0, ap (_∷_ ev) (r .1))
+  events-added acts (call (event e) ∷ acts′) any past (refused now n) = events-added acts acts′ (any .1) past now
+  events-added acts (call (ask q) ∷ acts′) any past (asked now) = events-added acts acts′ (any .1) past now
+  events-added acts (add id w ∷ acts′) any past (added now z) = let r = events-added acts acts′ (any .1) past now in (Create id (priority-of w) ∷ r .0, ap (_∷_ (Create id (priority-of w))) (r .1))
+  events-added acts (add id w ∷ acts′) any past (turned-away now n) = events-added acts acts′ (any .1) past now
+
+  pub events-since : (acts acts′ : List Act) → Any-acts (acts′ ++ acts) → {s : State} → Shipped c k t acts s → (s′ : List Event) × Shipped c k t (acts′ ++ acts) (s′ ++ s)
+  events-since acts acts′ any past =
+      let w = d t held (acts′ ++ acts) any in
+      let r = events-added acts acts′ any past (w .1 .shipped) in
+      (r .0, subst (Shipped c k t (acts′ ++ acts)) (r .1) (w .1 .shipped))

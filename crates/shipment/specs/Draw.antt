@@ -16,7 +16,8 @@ use Rattle.demands.specs.Calls.{Calls}
 use Rattle.shipment.specs.Calls.{Terminal}
 use Rattle.shipment.specs.Shipped.{Act, Any-acts, table-since, fixed-tasks, Shipped}
 
--- The kernel's table held t before the start. The moment is after the acts, and acts′ are those since; s and s′ are the events of theirs that were accepted, those of the start among the first.
+-- The kernel's table held t before the start. The moment is after the acts, and acts′ are those since; s and s′ are the events of theirs that were accepted, those of the start among
+-- the first: there always are such (`events-since`, proofs/Ships).
 pub record Since (c : Calls) (k : Terminal) (t : Table) (acts acts′ : List Act) (s s′ : List Event) : Type 0 where
   pub memory : Any-table t
   pub bytes : Any-acts (acts′ ++ acts)
