@@ -1,5 +1,5 @@
-// The calls of a kernel that keeps its only table and lends it: each calls the by-value function and, where the table changes, stores it
-// back. Exported for C; include/locktable.h declares them, and include/terminal.h those of the module tasks.
+// The calls of a kernel that keeps its only table and lends it. A query calls the by-value function; the step hands the table on as it is
+// lent, to the function of crate lent that stores what the by-value step gives back. Exported for C; include/locktable.h declares them, and include/terminal.h those of the module tasks.
 pub mod tasks;
 
 ghost use mathlib.Core.Path.{_≡_};

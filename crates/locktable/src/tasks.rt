@@ -1,4 +1,4 @@
-// The terminal's calls: each lends on nothing but the table's value, and stores the table that it gets back. Exported for C;
+// The terminal's calls: each calls the by-value function of crate terminal and stores the table that this gives back. Exported for C;
 // include/terminal.h declares them.
 ghost use mathlib.Core.Path.{_≡_};
 ghost use Rattle.terminal.specs.Start.{started};

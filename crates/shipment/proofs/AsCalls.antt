@@ -16,7 +16,7 @@ use Rattle.locks.specs.declared.Answer.{Answer}
 use Rattle.locks.specs.Answers.{refused, answerOf}
 use Rattle.terminal.specs.Tasks.{priorities, is-spare, creation}
 use Rattle.terminal.specs.Start.{created-to}
-use Rattle.terminal.specs.Spare.{priority-of, addition, spare-answer}
+use Rattle.terminal.specs.Spare.{default, priority-of, addition, spare-answer}
 use Rattle.terminal.specs.declared.spare.Wanted.{Wanted}
 use Rattle.terminal.specs.declared.spare.Wanted.the-variants.{At, Unsaid}
 use Rattle.terminal.proofs.Started.{accepted-to}
@@ -49,7 +49,7 @@ bytes-to zero h = (creation-bytes 0 _ (omega arith) (priority-byte 0 h), tt)
 bytes-to (suc n) h = (creation-bytes (suc n) _ (omega arith) (priority-byte (suc n) h), bytes-to n (omega arith))
 
 pub addition-bytes : (id : ℕ) (w : Wanted) → id ≤ 255 → Any-wanted w → Any-record (addition id w)
-addition-bytes id Unsaid h p = creation-bytes id 0 h (omega arith)
+addition-bytes id Unsaid h p = creation-bytes id default h (omega arith)
 addition-bytes id (At priority) h p = creation-bytes id priority h p
 
 one-more : (ks : List Call) → Any-calls ks → (id : ℕ) (w : Wanted) → id ≤ 255 → Any-wanted w → Any-calls (as-call (add id w) ∷ ks)
@@ -94,20 +94,24 @@ module _ (c : Calls) (is : As-stated c) where
     memory-after : (ks : List Call) → Any-calls ks → Any-table (table-after c t ks)
     memory-after ks any = demand-2 c is t held ks any .1 .memory
 
-    -- the steps of a start leave the tables that specs/Start of `terminal` gives,
+    -- task n is created on a table u, which is v; then what is left is that of specs/Start of `terminal`
+    create-one : (n : ℕ) → n < 16 → (u : Table) {v : Table} → Any-table u → u ≡ v → answerOf v (creation n (at priorities n)) ≡ created-to n → c .step u (creation n (at priorities n)) ≡ left-of (created-to n)
+    create-one n h u memory q to = let e = creation n (at priorities n) in
+        step-is u e memory (creation-bytes n (at priorities n) (omega arith) (priority-byte n h)) ∙ ap (λ (x : Table). left-of (answerOf x e)) q ∙ ap left-of to
+
+    -- so the steps of a start leave these tables,
     table-to : (n : ℕ) → n < 16 → table-after c t (calls-to n) ≡ created-to n .table
     unfolding created-to
-    table-to zero h = is .step (c .empty t) (creation 0 (at priorities 0)) (memory-after [] tt) (bytes-to zero h .0) .1 ∙ ap (λ (u : Table). answerOf u (creation 0 (at priorities 0)) .table) (is .empty t held)
-    table-to (suc n) h = let e = creation (suc n) (at priorities (suc n)) in
-        is .step (table-after c t (calls-to n)) e (memory-after (calls-to n) (bytes-to (suc n) h .1)) (bytes-to (suc n) h .0) .1 ∙ ap (λ (u : Table). answerOf u e .table) (table-to n (omega arith))
+    table-to zero h = ap (λ (l : Left Answer). l .table) (create-one zero h (c .empty t) (memory-after [] tt) (is .empty t held) refl)
+    table-to (suc n) h = ap (λ (l : Left Answer). l .table) (create-one (suc n) h (table-after c t (calls-to n)) (memory-after (calls-to n) (bytes-to n (omega arith))) (table-to n (omega arith)) refl)
 
     -- and each is accepted
     history-to : (n : ℕ) → n < 16 → History c t (calls-to n) (tasks-to n)
     unfolding created-to
     history-to zero h = runs.History.accepted none-yet
-        (ap (λ (a : Answer). a .number) (is .step (c .empty t) (creation 0 (at priorities 0)) (memory-after [] tt) (bytes-to zero h .0) .0) ∙ ap (λ (u : Table). answerOf u (creation 0 (at priorities 0)) .answer .number) (is .empty t held) ∙ accepted-to 0 h) (create refl)
-    history-to (suc n) h = let e = creation (suc n) (at priorities (suc n)) in runs.History.accepted (history-to n (omega arith))
-        (ap (λ (a : Answer). a .number) (is .step (table-after c t (calls-to n)) e (memory-after (calls-to n) (bytes-to (suc n) h .1)) (bytes-to (suc n) h .0) .0) ∙ ap (λ (u : Table). answerOf u e .answer .number) (table-to n (omega arith)) ∙ accepted-to (suc n) h) (create refl)
+        (ap (λ (l : Left Answer). l .answer .number) (create-one zero h (c .empty t) (memory-after [] tt) (is .empty t held) refl) ∙ accepted-to zero h) (create refl)
+    history-to (suc n) h = runs.History.accepted (history-to n (omega arith))
+        (ap (λ (l : Left Answer). l .answer .number) (create-one (suc n) h (table-after c t (calls-to n)) (memory-after (calls-to n) (bytes-to n (omega arith))) (table-to n (omega arith)) refl) ∙ accepted-to (suc n) h) (create refl)
 
     module _ (k : Terminal) (told : As-told k) where
       -- A spare task is added after calls ks, to the table u that they left.

@@ -1,6 +1,6 @@
 -- The functions that the contracts name do what the contracts say, so `As-told` can be met; of these all holds with no premise at all. No two results do for one input. Assumes nothing.
 use Prim.Native.Nat.{ℕ, _≤_}
-use mathlib.Core.Path.{_≡_, refl, sym, _∙_}
+use mathlib.Core.Path.{_≡_, refl, sym, ap, _∙_}
 use Rattle.table.specs.declared.Table.{Table}
 use Rattle.locks.specs.declared.Answer.{Answer}
 use Rattle.terminal.specs.Start.{started}
@@ -31,6 +31,13 @@ as-told = record { start = λ t a. (refl, refl); spare = says }
     says : (t : Table) (id : ℕ) (w : Wanted) → Any-table t → id ≤ 255 → Any-wanted w → Spare-says t id w (adds the-terminal t id w)
     says t id Unsaid a h p = (refl, refl)
     says t id (At priority) a h p = (refl, refl)
+
+-- and so does whatever leaves the same, for the tables and bytes that there are: no more is asked
+pub whatever-agrees : (k : Terminal) → ((t : Table) → Any-table t → k .start t ≡ the-terminal .start t) → ((t : Table) (id : ℕ) (w : Wanted) → Any-table t → id ≤ 255 → Any-wanted w → adds k t id w ≡ left-of (spare-answer t id w)) → As-told k
+whatever-agrees k starts spares = record {
+  start = λ t a. let q = starts t a in (ap (λ (l : Left Answer). l .answer) q, ap (λ (l : Left Answer). l .table) q);
+  spare = λ t id w a h p. let q = spares t id w a h p in (ap (λ (l : Left Answer). l .answer) q, ap (λ (l : Left Answer). l .table) q);
+}
 
 -- one result for each input
 pub start-one : (a b : Left Answer) → Start-says a → Start-says b → a ≡ b
