@@ -4,88 +4,73 @@ ghost use mathlib.Core.Path.{_≡_};
 ghost use mathlib.Core.Bool.{true};
 ghost use mathlib.Core.Logic.{_↔_};
 ghost use Prim.Native.Nat.{ℕ, _<_};
-ghost use Rattle.chains.specs.Ways.{thread-end, resource-end, Ends-from, Only-ended};
+ghost use Rattle.chains.specs.Ways.{thread-way, resource-way, Ends-from};
+use crate::marks::mark;
+use crate::marks::marked;
 use table::Table;
 use table::queues::wide;
 
-// The thread at which the way from t ends, or the first on it that is seen; 32 if the steps run out.
+// The threads on the way from t, up to the first that is seen or waits for nothing: they are marked in `way`, besides those that are. 0 if
+// the steps run out, or at a thread or resource that there is not.
 pub fn from_thread<'a>(
     waits: &'a [u8; Table::THREADS],
     holders: &'a [u8; Table::RESOURCES],
-    seen: &'a [bool; Table::THREADS],
+    seen: u32,
+    way: u32,
     t: u8,
     steps: u32,
-) -> u8
-    ensures { λ e. ⌜ e ≡ thread-end steps (now (waits .entry)) (now (holders .entry)) (now (seen .entry)) t ⌝ }
+) -> u32
+    ensures { λ w. ⌜ w ≡ thread-way steps (now (waits .entry)) (now (holders .entry)) seen way t ⌝ }
 {
     if steps == 0 {
-        return Table::NOBODY;
+        return 0;
     }
     let i = t as usize;
     if Table::THREADS <= i {
-        return Table::NOBODY;
+        return 0;
     }
-    if seen[i] {
-        return t;
+    let passed = mark(way, i);
+    if marked(seen, i) {
+        return passed;
     }
     let r = waits[i];
     if Table::RESOURCES <= wide(r) {
-        return t;
+        return passed;
     }
-    from_resource(waits, holders, seen, r, steps - 1)
+    from_resource(waits, holders, seen, passed, r, steps - 1)
 }
 
 // The same from resource r: it goes on at the holder.
 pub fn from_resource<'a>(
     waits: &'a [u8; Table::THREADS],
     holders: &'a [u8; Table::RESOURCES],
-    seen: &'a [bool; Table::THREADS],
+    seen: u32,
+    way: u32,
     r: u8,
     steps: u32,
-) -> u8
-    ensures { λ e. ⌜ e ≡ resource-end steps (now (waits .entry)) (now (holders .entry)) (now (seen .entry)) r ⌝ }
+) -> u32
+    ensures { λ w. ⌜ w ≡ resource-way steps (now (waits .entry)) (now (holders .entry)) seen way r ⌝ }
 {
     if steps == 0 {
-        return Table::NOBODY;
+        return 0;
     }
     let i = r as usize;
     if Table::RESOURCES <= i {
-        return Table::NOBODY;
+        return 0;
     }
-    from_thread(waits, holders, seen, holders[i], steps - 1)
+    from_thread(waits, holders, seen, way, holders[i], steps - 1)
 }
 
 // More nodes than a way without a circle has: it passes each of 32 threads and of 16 resources once at most.
 pub const NODES: u32 = 64;
 
-// Marks the threads on the way from h, which ends, up to one that is marked already.
-fn mark<'a>(
-    waits: &'a [u8; Table::THREADS],
-    holders: &'a [u8; Table::RESOURCES],
-    h: usize,
-    seen: &mut [bool; Table::THREADS],
-)
-    requires { ⌜ Ends-from (now waits) (now holders) h ⌝ }
-    ensures { λ _. ⌜ Only-ended (now (waits .entry)) (now (holders .entry)) (now (seen .entry)) (now (seen .exit)) ⌝ }
-{
-    let mut i = h;
-    while !seen[i] {
-        seen[i] = true;
-        let r = wide(waits[i]);
-        if Table::RESOURCES <= r {
-            return;
-        }
-        i = wide(holders[r]);
-    }
-}
-
 // Whether the way from every thread ends. Only threads that wait are looked at, each by the holder of what it waits for: the way from
-// others ends at once. All threads on a way that ends are marked, so that a later way stops where it meets one: each thread is walked
-// over once, and once more to mark it.
+// others ends at once. Seen are the threads whose way is known to end, so that a later way stops where it meets one: each thread is walked
+// over once. The way under test is marked beside them, since one that comes back to its own marks is a circle.
 pub fn no_circle<'a>(waits: &'a [u8; Table::THREADS], holders: &'a [u8; Table::RESOURCES]) -> bool
     ensures { λ b. ⌜ (b ≡ true) ↔ ((th : ℕ) → th < 32 → Ends-from (now (waits .entry)) (now (holders .entry)) th) ⌝ }
 {
-    let mut seen = [false; Table::THREADS];
+    let mut seen: u32 = 0;
     let mut i = 0;
     while i < Table::THREADS {
         let r = wide(waits[i]);
@@ -95,13 +80,14 @@ pub fn no_circle<'a>(waits: &'a [u8; Table::THREADS], holders: &'a [u8; Table::R
             if Table::THREADS <= h {
                 return false;
             }
-            if !seen[h] {
-                if from_thread(waits, holders, &seen, holder, NODES) == Table::NOBODY {
+            if !marked(seen, h) {
+                let way = from_thread(waits, holders, seen, seen, holder, NODES);
+                if way == 0 {
                     return false;
                 }
-                mark(waits, holders, h, &mut seen);
+                seen = way;
             }
-            seen[i] = true;
+            seen = mark(seen, i);
         }
         i += 1;
     }

@@ -18,7 +18,10 @@ use table::queues::wide;
 pub fn step(mut t: Table, e: Record) -> Done
     ensures { λ d. ⌜ d ≡ answerOf t e ⌝ }
 {
-    let own = numbers(&t.live, &t.priority, &t.time);
+    // By way of a name that is not lent: what two calls give would else come through one temporary, from which both are copied
+    // (docs/DECISIONS.md, "What a call costs").
+    let of_own = numbers(&t.live, &t.priority, &t.time);
+    let own = of_own;
     let mut current = numbers(&t.live, &t.current_priority, &t.current_time);
     let c = check(
         t.clock,

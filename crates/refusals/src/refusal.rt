@@ -4,15 +4,15 @@ ghost use mathlib.Core.Bool.{true, false};
 ghost use mathlib.Core.Logic.{_↔_, _⊎_};
 ghost use mathlib.Core.List.{List};
 ghost use Prim.Native.Nat.{ℕ, _<_};
-ghost use lib.Dec.{eqb};
-ghost use lib.ListN.{replicate};
 ghost use Rattle.table.specs.declared.Table.{Table};
 ghost use Rattle.table.specs.Table.{at};
 ghost use Rattle.table.specs.Compute.{runner};
 ghost use Rattle.table.specs.code.Tracks.{Known};
-ghost use Rattle.chains.specs.Ways.{resource-end};
+ghost use Rattle.chains.specs.Marks.{marked};
+ghost use Rattle.chains.specs.Ways.{resource-way};
 ghost use Rattle.refusals.specs.Refusals.{lowest, malformed, by-record, by-thread, by-queues, refusals};
 use crate::Record;
+use chains::marks::marked;
 use chains::ways::NODES;
 use chains::ways::from_resource;
 use table::Table;
@@ -81,8 +81,7 @@ fn holds_any(holders: &[u8; Table::RESOURCES], t: u8) -> bool
     false
 }
 
-// Whether the chain from resource r ends at t. From a free one none leads on. A thread that runs waits for nothing, so a chain that leads
-// to it ends there.
+// Whether a chain leads from resource r to t: whether t is on the way from r. From a free one none leads on.
 fn leads<'a>(
     waits: &'a [u8; Table::THREADS],
     holders: &'a [u8; Table::RESOURCES],
@@ -90,13 +89,14 @@ fn leads<'a>(
     t: u8,
 ) -> bool
     requires { ⌜ r < 16 ⌝ }
-    ensures { λ b. ⌜ (t < 32 → b ≡ eqb (resource-end 64 (now (waits .entry)) (now (holders .entry)) (replicate 32 false) r) t) ⌝ }
+    ensures { λ b. ⌜ (t < 32 → b ≡ marked (resource-way 64 (now (waits .entry)) (now (holders .entry)) 0 0 r) t) ⌝ }
 {
     if holders[wide(r)] == Table::NOBODY {
         return false;
     }
-    let unseen = [false; Table::THREADS];
-    from_resource(waits, holders, &unseen, r, NODES) == t
+    let way = from_resource(waits, holders, 0, 0, r, NODES);
+    let i = t as usize;
+    i < Table::THREADS && marked(way, i)
 }
 
 // The refusals by the queues: 9, 10 or 11; 0 if none applies. A P or V that names no resource was refused by its record.
@@ -106,7 +106,7 @@ fn by_queues<'a>(
     e: Record,
 ) -> u8
     requires { ⌜ ((e .kind ≡ 4) ⊎ (e .kind ≡ 5) → e .argument < 16) ⌝ }
-    ensures { λ n. ⌜ ((t : Table) (owns currents : List ℕ) → Known t (now (waits .entry)) (now (holders .entry)) owns currents → e .thread < 32 → (e .kind ≡ 4 → runner t ≡ e .thread) → n ≡ lowest (by-queues t e)) ⌝ }
+    ensures { λ n. ⌜ ((t : Table) (owns currents : List ℕ) → Known t (now (waits .entry)) (now (holders .entry)) owns currents → e .thread < 32 → n ≡ lowest (by-queues t e)) ⌝ }
 {
     let kind = e.kind;
     let t = e.thread;

@@ -4,10 +4,8 @@ use mathlib.Core.Path.{_≡_, refl, sym, _∙_}
 use mathlib.Core.Bool.{Bool, true, false, not, _&&_, false≢true}
 use mathlib.Core.List.{_++_}
 use mathlib.Core.Logic.{_≢_}
-use borrow.Author.Tests.{eqb-true, ne-eqb, not-false}
-use lib.Dec.{eqb}
 use Rattle.table.specs.declared.Table.{Table}
-use Rattle.table.specs.Compute.{is-live, runner, is-sound}
+use Rattle.table.specs.Compute.{is-sound}
 use Rattle.refusals.specs.declared.Record.{Record}
 use Rattle.refusals.specs.Refusals.{lowest, unsound, by-record, by-thread, by-queues, refusals}
 use Rattle.refusals.proofs.given.Lowest.{Numbered, passes, of-first, of-second}
@@ -27,14 +25,6 @@ module _ (t : Table) (e : Record) where
   thread-numbered : Numbered 4 (by-thread t e)
   unfolding by-thread
   thread-numbered = (refl, (refl, (refl, (refl, tt))))
-
-  -- where none of those by the thread applies, it runs, unless it is created
-  pub thread-runs : lowest (by-thread t e) ≡ 0 → e .kind ≢ 1 → runner t ≡ e .thread
-  unfolding by-thread
-  thread-runs z n =
-      let p = passes 4 (by-thread t e) thread-numbered z in
-      let f : (not (eqb (e .kind) 1) && not (eqb (runner t) (e .thread))) ≡ false = sym (past-7 (eqb (e .kind) 1) (is-live t (e .thread)) (eqb (runner t) (e .thread)) (p .1 .1 .0)) ∙ p .1 .1 .1 .0 in
-      eqb-true (runner t) (e .thread) (not-false (eqb (runner t) (e .thread)) (rw (ne-eqb (e .kind) 1 n) at f))
 
   -- the number that is given on a sound table
   module _ (sound : is-sound t ≡ true) where

@@ -1,34 +1,29 @@
 -- `chains::ways::no_circle` meets its contract. The loop's invariant: the way ends from every thread before `i`, and from every
 -- thread that is seen. The measure is the number of threads left. Assumes nothing.
-use Prim.Native.Nat.{ℕ, zero, suc, _≤_, _<_, _-_}
+use Prim.Native.Nat.{ℕ, _≤_, _<_, _-_}
 use native.Mathlib.Omega.{arith}
 use mathlib.Core.Path.{_≡_, refl, sym, _∙_}
-use mathlib.Core.Bool.{true, false, false≢true}
+use mathlib.Core.Bool.{true, false≢true}
 use mathlib.Core.Logic.{⊎-elim}
-use lib.ListN.{getD, replicate}
 use borrow.Author.Count.{below-more}
 use borrow.Author.Needs.{needs}
 use borrow.Author.Tests.{not-false}
+use Rattle.chains.specs.Marks.{marked}
 use Rattle.chains.specs.Ways.{Ends-from, here}
-use Rattle.chains.proofs.ways.Chain.{ends-found, found-ends}
-use Rattle.chains.proofs.ways.Marks.{marked, ends-low, ends-next, next-ends}
+use Rattle.chains.proofs.marks.Bits.{nobody-marked, all-marked}
+use Rattle.chains.proofs.ways.Chain.{ends-found, found}
+use Rattle.chains.proofs.ways.Next.{ends-low, ends-next, next-ends}
 use Rattle.chains.proofs.ways.no_circle.Statement.{statement}
 use Rattle.chains.proofs.ways.no_circle.Tie as tie
 
--- nobody is seen at first
-unseen : (n u : ℕ) → ¬ (getD (replicate n false) u false ≡ true)
-unseen zero u e = false≢true e
-unseen (suc n) zero e = false≢true e
-unseen (suc n) (suc u) e = unseen n u e
-
 abbrev Inv-loop : tie.InvT-loop
-Inv-loop waits holders seen₀ i₀ seen i = (i ≤ 32) × ((u : ℕ) → u < i → Ends-from waits holders u) × ((u : ℕ) → getD seen u false ≡ true → Ends-from waits holders u)
+Inv-loop waits holders seen₀ i₀ seen i = (i ≤ 32) × ((u : ℕ) → u < i → Ends-from waits holders u) × ((u : ℕ) → marked seen u ≡ true → Ends-from waits holders u)
 
 abbrev μ-loop : tie.MeasureT-loop
 μ-loop waits holders seen₀ i₀ seen i = 32 - i
 
 loop-holds : tie.Need-loop-holds Inv-loop μ-loop
-loop-holds c = (omega arith, (λ u h. absurd (omega arith)), λ u e. absurd (unseen 32 u e))
+loop-holds c = (omega arith, (λ u h. absurd (omega arith)), λ u e. absurd (false≢true (sym (nobody-marked u) ∙ e)))
 
 element-copy-out-wide : tie.Need-element-copy-out-wide Inv-loop μ-loop
 element-copy-out-wide c = search needs
@@ -53,8 +48,8 @@ holder-ends d f =
 returns : tie.Need-returns Inv-loop μ-loop
 returns c = ((λ e. absurd (false≢true e)), λ f. absurd (omega (arith, ends-low _ _ (holder-ends (c .before) f))))
 
-array-read-if3 : tie.Need-array-read-if3 Inv-loop μ-loop
-array-read-if3 c = search needs
+marked-requires : tie.Need-marked-requires Inv-loop μ-loop
+marked-requires c κs = search needs
 
 from-thread-requires : tie.Need-from-thread-requires Inv-loop μ-loop
 from-thread-requires c κs = search needs
@@ -62,16 +57,10 @@ from-thread-requires c κs = search needs
 returns-2 : tie.Need-returns-2 Inv-loop μ-loop
 returns-2 c =
     let d = c .before .before .before .before .before in
-    ((λ e. absurd (false≢true e)), λ f. absurd (ends-found _ _ _ _ (rw (d .wide2 .ensures .0) at (holder-ends d f)) (sym (c .before .from-thread .ensures) ∙ c .if4 .taken)))
+    ((λ e. absurd (false≢true e)), λ f. absurd (ends-found _ _ _ _ _ (rw (d .wide2 .ensures .0) at (holder-ends d f)) (sym (c .before .from-thread .ensures) ∙ c .if4 .taken)))
 
 mark-requires : tie.Need-mark-requires Inv-loop μ-loop
-mark-requires c κs =
-    let d = c .before .before .before .before .before .before in
-    let s = d .before .before .before .before .before .before .loop in
-    rw (d .wide2 .ensures .0) (found-ends _ _ _ (s .inv .2) 64 _ (λ e. c .before .if4 .left (c .before .before .from-thread .ensures ∙ e)))
-
-array-write-seen : tie.Need-array-write-seen Inv-loop μ-loop
-array-write-seen c = search needs
+mark-requires c κs = search needs
 
 add-i : tie.Need-add-i Inv-loop μ-loop
 add-i c = search needs
@@ -85,14 +74,14 @@ loop-again c =
     let a = c .before .before .before .before .before .args in
     ⊎-elim
     (λ w.
-    let k : Ends-from (a .waits .now) (a .holders .now) (w .2 .result) × ((u : ℕ) → getD (w .4 .seen) u false ≡ true → Ends-from (a .waits .now) (a .holders .now) u) = ⊎-elim
+    let k : Ends-from (a .waits .now) (a .holders .now) (w .2 .result) × ((u : ℕ) → marked (w .5 .seen) u ≡ true → Ends-from (a .waits .now) (a .holders .now) u) = ⊎-elim
     (λ v.
-    let e = found-ends _ _ _ (s .inv .2) 64 _ (λ q. v .3 .left (v .2 .ensures ∙ q)) in
-    (rw (w .2 .ensures .0) e, λ u m. ⊎-elim (s .inv .2 u) (λ x. x) (v .5 .ensures u (rw (v .6) at m))))
-    (λ v. (s .inv .2 _ (not-false _ (v .0 .left)), rw (v .1) (s .inv .2)))
-    (w .4 .came) in
+    let f = found _ _ _ (s .inv .2) 64 (s .seen) _ (λ q. v .2 .left (v .1 .ensures ∙ q)) in
+    (rw (w .2 .ensures .0) (f .0), λ u m. ⊎-elim (s .inv .2 u) (λ x. x) (f .1 u (rw (v .3, v .1 .ensures) at m))))
+    (λ v. (s .inv .2 _ (sym (w .4 .ensures) ∙ not-false _ (v .0 .left)), rw (v .1) (s .inv .2)))
+    (w .5 .came) in
     let new = next-ends _ _ (s .i) _ _ (c .before .wide .ensures .0) (w .0 .taken) (w .2 .ensures .0) (omega arith) (k .0) in
-    (omega arith, below-more _ _ (s .inv .1) new, rw (w .5) (marked (w .4 .seen) (s .i) (k .1) new)))
+    (omega arith, below-more _ _ (s .inv .1) new, rw (w .7, w .6 .ensures) (all-marked (w .5 .seen) (s .i) (k .1) new)))
     (λ w. (omega arith, below-more _ _ (s .inv .1) (0, here {t = s .i} (omega arith) (omega (arith, w .0 .left))), rw (w .1) (s .inv .2)))
     (c .if1 .came)
 
@@ -111,11 +100,10 @@ no-circle-spec =
     element-copy-out-holder
     wide-requires-2
     returns
-    array-read-if3
+    marked-requires
     from-thread-requires
     returns-2
     mark-requires
-    array-write-seen
     add-i
     loop-less
     loop-again

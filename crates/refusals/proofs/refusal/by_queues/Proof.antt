@@ -8,16 +8,16 @@ use native.Mathlib.Omega.{arith}
 use borrow.Author.Needs.{needs}
 use borrow.Author.Tests.{ne-eqb}
 use lib.Dec.{eqb}
-use lib.ListN.{replicate}
 use Rattle.table.specs.declared.Table.{Table}
 use Rattle.table.specs.Table.{at}
-use Rattle.table.specs.Compute.{holder, runner}
+use Rattle.table.specs.Compute.{holder}
 use Rattle.table.specs.code.Tracks.{Known}
 use Rattle.table.proofs.sound.Read.{sound-good, holder-holds}
 use Rattle.table.proofs.tests.Reflect.{same-test}
 use Rattle.table.proofs.tests.Computed.{holds-holder}
 use Rattle.table.proofs.values.Values.{Good, resource-low}
-use Rattle.chains.specs.Ways.{resource-end}
+use Rattle.chains.specs.Marks.{marked}
+use Rattle.chains.specs.Ways.{resource-way}
 use Rattle.refusals.specs.Refusals.{lowest, leads, holds-any, by-queues}
 use Rattle.refusals.proofs.tests.Tells.{retell, tells-holds-any}
 use Rattle.refusals.proofs.tests.Leads.{leads-is}
@@ -29,7 +29,7 @@ module _ {t : Table} {waits holders owns currents : List ℕ} (known : Known t w
   good : Good t
   good = sound-good t (known .shape) (known .sound)
 
-  known-leads : (r x : ℕ) → x < 32 → runner t ≡ x → eqb (resource-end 64 waits holders (replicate 32 false) r) x ≡ leads t r x
+  known-leads : (r x : ℕ) → x < 32 → marked (resource-way 64 waits holders 0 0 r) x ≡ leads t r x
   known-leads = leads-is t good (known .tracks)
 
   known-holder : (r q : ℕ) → r < 16 → q ≡ r → at holders q ≡ holder t r
@@ -43,10 +43,10 @@ module _ {t : Table} {waits holders owns currents : List ℕ} (known : Known t w
 
 -- past each test, that refusal doesn't apply
 
-no-9 : (c : tie.Joined1) (t : Table) (owns currents : List ℕ) → let a = c .before .args in Known t (a .waits .now) (a .holders .now) owns currents → a .e .thread < 32 → (a .e .kind ≡ 4 → runner t ≡ a .e .thread) →
+no-9 : (c : tie.Joined1) (t : Table) (owns currents : List ℕ) → let a = c .before .args in Known t (a .waits .now) (a .holders .now) owns currents → a .e .thread < 32 →
     (eqb (a .e .kind) 4 && leads t (a .e .argument) (a .e .thread)) ≡ false
-no-9 c t owns currents known h runs = ⊎-elim
-    (λ v. rw (v .0 .taken, ← known-leads known _ _ h (runs (v .0 .taken)), ← v .1 .ensures h, v .2 .left))
+no-9 c t owns currents known h = ⊎-elim
+    (λ v. rw (v .0 .taken, ← known-leads known _ _ h, ← v .1 .ensures h, v .2 .left))
     (λ v. rw (ne-eqb _ _ (v .left)))
     (c .if1 .came)
 
@@ -69,9 +69,9 @@ leads-requires c κs = c .before .pre (inl (c .if1 .taken))
 
 returns : tie.Need-returns
 unfolding lowest by-queues
-returns c t owns currents known h runs =
+returns c t owns currents known h =
     let kind = c .before .before .if1 .taken in
-    rw (kind, ← known-leads known _ _ h (runs kind), ← c .before .leads .ensures h, c .if2 .taken)
+    rw (kind, ← known-leads known _ _ h, ← c .before .leads .ensures h, c .if2 .taken)
 
 wide-requires : tie.Need-wide-requires
 wide-requires c κs = search needs
@@ -81,7 +81,7 @@ element-copy-out-if4 c = omega (arith, c .before .before .before .pre (inr (c .b
 
 returns-2 : tie.Need-returns-2
 unfolding lowest by-queues
-returns-2 c t owns currents known h runs =
+returns-2 c t owns currents known h =
     let kind = c .before .before .before .if3 .taken in
     rw (kind, ← known-holder known _ _ (c .before .before .before .before .before .pre (inr kind)) (c .before .before .wide .ensures .0), c .if4 .taken)
 
@@ -90,11 +90,11 @@ holds-any-requires c κs = search needs
 
 returns-3 : tie.Need-returns-3
 unfolding lowest by-queues
-returns-3 c t owns currents known h runs = rw (c .before .before .if5 .taken, ← known-holds known _ h (c .before .holds-any .ensures), c .if6 .taken)
+returns-3 c t owns currents known h = rw (c .before .before .if5 .taken, ← known-holds known _ h (c .before .holds-any .ensures), c .if6 .taken)
 
 returns-4 : tie.Need-returns-4
 unfolding lowest by-queues
-returns-4 c t owns currents known h runs = rw (no-9 (c .before .before) t owns currents known h runs, no-10 (c .before) t owns currents known, no-11 c t owns currents known h)
+returns-4 c t owns currents known h = rw (no-9 (c .before .before) t owns currents known h, no-10 (c .before) t owns currents known, no-11 c t owns currents known h)
 
 pub by-queues-spec : {M : Type 1} → statement M
 by-queues-spec =

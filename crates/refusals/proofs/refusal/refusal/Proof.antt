@@ -6,7 +6,7 @@ use borrow.Author.Needs.{needs}
 use Rattle.table.proofs.tests.Decided.{tells-sound}
 use Rattle.refusals.specs.Refusals.{lowest, by-record}
 use Rattle.refusals.specs.Applies.{Ill-formed}
-use Rattle.refusals.proofs.given.Parts.{thread-runs, given-record, given-thread, given-queues}
+use Rattle.refusals.proofs.given.Parts.{given-record, given-thread, given-queues}
 use Rattle.refusals.proofs.given.Formed.{well-formed, formed-thread, formed-resource}
 use Rattle.refusals.proofs.refusal.refusal.Statement.{statement}
 use Rattle.refusals.proofs.refusal.refusal.Tie as tie
@@ -41,7 +41,7 @@ returns-3 : tie.Need-returns-3
 returns-3 c t owns currents known clock live running =
     let z = sym (c .before .before .by-thread .ensures t clock live running) ∙ c .before .if2 .left in
     let well = c .before .before .before in
-    c .by-queues .ensures t owns currents known (formed-thread (formed well)) (λ kind. thread-runs t _ z (omega arith))
+    c .by-queues .ensures t owns currents known (formed-thread (formed well))
     ∙ sym (given-queues t _ (tells-sound t (known .shape) .1 (known .sound)) (none-2-to-4 well) z)
 
 pub refusal-spec : {M : Type 1} → statement M

@@ -1,0 +1,2 @@
+-- Sets of threads as words.
+pub mod Bits
