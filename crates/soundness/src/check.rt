@@ -2,9 +2,14 @@
 ghost use mathlib.Core.Path.{_≡_};
 ghost use mathlib.Core.Bool.{true};
 ghost use mathlib.Core.Logic.{_↔_};
+ghost use mathlib.Core.List.{List};
+ghost use Prim.Native.Nat.{ℕ};
+ghost use lib.ListN.{replicate};
 ghost use Rattle.table.specs.Sound.{Sound};
 ghost use Rattle.table.specs.code.Places.{Numbers-of};
 ghost use Rattle.table.specs.code.Shape.{table-of, Shape};
+ghost use Rattle.queues.specs.Queues.{Rows-right, Surveyed};
+ghost use Rattle.slots.specs.Slots.{All-add-up};
 ghost use Rattle.soundness.specs.Checked.{Checked-right};
 use chains::law::law_values;
 use chains::law::same;
@@ -16,6 +21,28 @@ use slots::totals::totals_right;
 use table::Table;
 use table::numbers::numbers;
 use table::queues::longest;
+
+// Whether the queues are right and the totals go by them. Where they are, waits has what each thread waits for (16: nothing) and holders
+// who holds each resource (32: nobody); they are lent with nothing noted yet. In how many queues each thread stands is counted here and
+// nowhere else, in a function of its own, so that the tests that follow have its place on the stack.
+fn queues_right<'a>(
+    clock: u16,
+    queue: &'a [u8; Table::PLACES],
+    lengths: &'a [u8; Table::RESOURCES],
+    live: &'a [u8; Table::THREADS],
+    requests: &'a [u16; Table::THREADS],
+    releases: &'a [u16; Table::THREADS],
+    waits: &mut [u8; Table::THREADS],
+    holders: &mut [u8; Table::RESOURCES],
+) -> bool
+    requires { ⌜ (now waits ≡ replicate 32 16) × (now holders ≡ replicate 16 32) ⌝ }
+    ensures { λ b. ⌜ (b ≡ true → (standing : List ℕ) × Rows-right (now (queue .entry)) (now (lengths .entry)) (now (live .entry)) 16 × Surveyed (now (queue .entry)) (now (lengths .entry)) 16 (now (waits .exit)) (now (holders .exit)) standing × All-add-up clock (now (requests .entry)) (now (releases .entry)) standing)
+        × (Rows-right (now (queue .entry)) (now (lengths .entry)) (now (live .entry)) 16 → ((standing : List ℕ) → Surveyed (now (queue .entry)) (now (lengths .entry)) 16 (now (waits .exit)) (now (holders .exit)) standing → All-add-up clock (now (requests .entry)) (now (releases .entry)) standing) → b ≡ true) ⌝ }
+{
+    let mut standing = [0u16; Table::THREADS];
+    let right = survey(queue, lengths, live, waits, holders, &mut standing);
+    right && totals_right(clock, requests, releases, &standing)
+}
 
 // sound: the answer. The rest is known of a sound table. waits: what each thread waits for (16: nothing). holders: who holds each resource
 // (32: nobody).
@@ -47,14 +74,15 @@ pub fn check<'a>(
 {
     let mut waits = [Table::NOTHING; Table::THREADS];
     let mut holders = [Table::NOBODY; Table::RESOURCES];
-    let mut standing = [0u16; Table::THREADS];
-    let right = survey(
+    let right = queues_right(
+        clock,
         queue,
         lengths,
         live,
+        requests,
+        releases,
         &mut waits,
         &mut holders,
-        &mut standing,
     );
     // Where no queue has a second entry nobody waits, so that the ways need not be walked.
     let sound = right
@@ -67,7 +95,6 @@ pub fn check<'a>(
             current_time,
             requests,
         )
-        && totals_right(clock, requests, releases, &standing)
         && times_differ(live, time)
         && (longest(lengths) < 2 || no_circle(&waits, &holders))
         && same(

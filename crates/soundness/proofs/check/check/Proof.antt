@@ -8,7 +8,7 @@ use native.Mathlib.Omega.{arith}
 use borrow.Author.Tests.{lt-ltb}
 use Rattle.table.proofs.tests.Reflect.{Tells}
 use Rattle.chains.specs.Ways.{here, Ends-from}
-use Rattle.slots.specs.Slots.{Slots-right, All-add-up, Times-differ}
+use Rattle.slots.specs.Slots.{Slots-right, Times-differ}
 use Rattle.queues.specs.Queues.{Surveyed}
 use Rattle.queues.proofs.survey.Turns.{waits-nowhere}
 use Rattle.soundness.proofs.Rules.{surveyed-ends, surveyed-totals}
@@ -17,14 +17,11 @@ use borrow.Author.Needs.{needs}
 use Rattle.soundness.proofs.check.check.Statement.{statement}
 use Rattle.soundness.proofs.check.check.Tie as tie
 
-survey-requires : tie.Need-survey-requires
-survey-requires c κs = search needs
+queues-right-requires : tie.Need-queues-right-requires
+queues-right-requires c κs = search needs
 
 slots-right-requires : tie.Need-slots-right-requires
 slots-right-requires c κs = search needs
-
-totals-right-requires : tie.Need-totals-right-requires
-totals-right-requires c κs = search needs
 
 times-differ-requires : tie.Need-times-differ-requires
 times-differ-requires c κs = search needs
@@ -49,71 +46,63 @@ after-false : {p b : Bool} {A : Type 0} → p ≡ false → b ≡ p → Tells b 
 after-false e f = ((λ z. absurd (false≢true (sym e ∙ sym f ∙ z))), λ w. absurd (false≢true (sym e ∙ w .0)))
 
 -- the arguments, as the tests see them
-abbrev start : tie.After-survey → tie.Start
-start c = c .before .before .before .before
+abbrev start : tie.After-queues-right → tie.Start
+start c = c .before .before .before
 
--- what the survey left
-abbrev waits : tie.After-survey → List ℕ
-waits c = c .survey .last .1 .1 .1 .0
+-- what the queues say
+abbrev waits : tie.After-queues-right → List ℕ
+waits c = c .queues-right .last .1 .1 .1 .1 .1 .1 .0
 
-abbrev holders : tie.After-survey → List ℕ
-holders c = c .survey .last .1 .1 .1 .1 .0
-
-abbrev standing : tie.After-survey → List ℕ
-standing c = c .survey .last .1 .1 .1 .1 .1 .0
+abbrev holders : tie.After-queues-right → List ℕ
+holders c = c .queues-right .last .1 .1 .1 .1 .1 .1 .1 .0
 
 slots : (c : tie.Joined1) → let a = start (c .before) .args in
-    Tells (c .if1 .if2) ((c .before .survey .result ≡ true) × Slots-right (a .clock) (a .live .now) (a .priority .now) (a .time .now) (a .current-priority .now) (a .current-time .now) (a .requests .now))
+    Tells (c .if1 .if2) ((c .before .queues-right .result ≡ true) × Slots-right (a .clock) (a .live .now) (a .priority .now) (a .time .now) (a .current-priority .now) (a .current-time .now) (a .requests .now))
 slots c = ⊎-elim (λ w. after-true (w .0 .taken) (w .1 .ensures) (w .2)) (λ w. after-false (w .0 .left) (w .1)) (c .if1 .came)
 
-totals : (c : tie.Joined2) → let s = c .before .before in let a = start s .args in Tells (c .if2 .if3) ((c .before .if1 .if2 ≡ true) × All-add-up (a .clock) (a .requests .now) (a .releases .now) (standing s))
-totals c = ⊎-elim (λ w. after-true (w .0 .taken) (w .2 .ensures) (w .3)) (λ w. after-false (w .0 .left) (w .1)) (c .if2 .came)
-
-times : (c : tie.Joined3) → let a = start (c .before .before .before) .args in Tells (c .if3 .if4) ((c .before .if2 .if3 ≡ true) × Times-differ (a .live .now) (a .time .now))
-times c = ⊎-elim (λ w. after-true (w .0 .taken) (w .1 .ensures) (w .2)) (λ w. after-false (w .0 .left) (w .1)) (c .if3 .came)
+times : (c : tie.Joined2) → let a = start (c .before .before) .args in Tells (c .if2 .if3) ((c .before .if1 .if2 ≡ true) × Times-differ (a .live .now) (a .time .now))
+times c = ⊎-elim (λ w. after-true (w .0 .taken) (w .1 .ensures) (w .2)) (λ w. after-false (w .0 .left) (w .1)) (c .if2 .came)
 
 -- where no queue has a second entry nobody waits, so that every way ends at once
-ways : (c : tie.Joined4) → let s = c .before .before .before .before in let a = start s .args in
-    (c .if4 .if6 ≡ true → (c .before .if3 .if4 ≡ true) × (Surveyed (a .queue .now) (a .lengths .now) 16 (waits s) (holders s) (standing s) → (th : ℕ) → th < 32 → Ends-from (waits s) (holders s) th))
-    × ((c .before .if3 .if4 ≡ true) × ((th : ℕ) → th < 32 → Ends-from (waits s) (holders s) th) → c .if4 .if6 ≡ true)
+ways : (c : tie.Joined3) → let s = c .before .before .before in let a = start s .args in
+    (c .if3 .if5 ≡ true → (c .before .if2 .if3 ≡ true) × ((standing : List ℕ) → Surveyed (a .queue .now) (a .lengths .now) 16 (waits s) (holders s) standing → (th : ℕ) → th < 32 → Ends-from (waits s) (holders s) th))
+    × ((c .before .if2 .if3 ≡ true) × ((th : ℕ) → th < 32 → Ends-from (waits s) (holders s) th) → c .if3 .if5 ≡ true)
 ways c = (
-  λ e. ⊎-elim (λ w. (w .0 .taken, λ known th h. (0, here {t = th} h (omega (arith, waits-nowhere _ _ (w .1 .ensures) (omega (arith, w .2 .taken)) known th h)))))
-      (⊎-elim (λ w. (w .0 .taken, λ known. w .5 .ensures .0 (sym (w .6) ∙ e))) (λ w. absurd (false≢true (sym (w .0 .left) ∙ sym (w .1) ∙ e)))) (c .if4 .came),
-  λ p. ⊎-elim (λ w. w .3 ∙ lt-ltb _ _ (w .2 .taken)) (⊎-elim (λ w. w .6 ∙ w .5 .ensures .1 (p .1)) (λ w. absurd (false≢true (sym (w .0 .left) ∙ p .0)))) (c .if4 .came),
+  λ e. ⊎-elim (λ w. (w .0 .taken, λ standing known th h. (0, here {t = th} h (omega (arith, waits-nowhere _ _ (w .1 .ensures) (omega (arith, w .2 .taken)) known th h)))))
+      (⊎-elim (λ w. (w .0 .taken, λ standing known. w .5 .ensures .0 (sym (w .6) ∙ e))) (λ w. absurd (false≢true (sym (w .0 .left) ∙ sym (w .1) ∙ e)))) (c .if3 .came),
+  λ p. ⊎-elim (λ w. w .3 ∙ lt-ltb _ _ (w .2 .taken)) (⊎-elim (λ w. w .6 ∙ w .5 .ensures .1 (p .1)) (λ w. absurd (false≢true (sym (w .0 .left) ∙ p .0)))) (c .if3 .came),
 )
 
 returns : tie.Need-returns
 returns c =
     λ shape owns currents.
     let j = c .before .before .before .before .before .before in
-    let s = j .before .before .before .before in
+    let s = j .before .before .before in
     let a = start s .args in
-    let w = ways j .0 (c .before .before .before .before .before .if6 .taken) in
+    let w = ways j .0 (c .before .before .before .before .before .if5 .taken) in
     let t = times (j .before) .0 (w .0) in
-    let n = totals (j .before .before) .0 (t .0) in
-    let l = slots (j .before .before .before) .0 (n .0) in
-    let rows = s .survey .ensures .0 (l .0) in
+    let l = slots (j .before .before) .0 (t .0) in
+    let q = s .queues-right .ensures .0 (l .0) in
     let v = c .before .before .law-values in
     decides _ shape (a .own .now) (a .current .now) _ owns currents (omega (arith, start s .fits .clock))
-    (record { slots = l .1; times = t .1; rows = rows .0; ends = surveyed-ends _ shape (rows .0) (rows .1) .0 (w .1 (rows .1)); totals = surveyed-totals _ shape (rows .0) (rows .1) .0 (n .1) }) (rows .1) (v .result) (v .ensures) (c .same .ensures)
+    (record { slots = l .1; times = t .1; rows = q .1; ends = surveyed-ends _ shape (q .1) (q .2) .0 (w .1 (q .0) (q .2)); totals = surveyed-totals _ shape (q .1) (q .2) .0 (q .3) }) (q .2) (v .result) (v .ensures) (c .same .ensures)
 
 returns-2 : tie.Need-returns-2
 returns-2 c =
     λ shape owns currents.
     let j = c .before in
-    let s = j .before .before .before .before in
-    fails _ shape _ (c .if6 .left)
-    (λ p. let right = s .survey .ensures .1 (p .rows) in
-    let known = s .survey .ensures .0 right .1 in
-    false≢true (sym (c .if6 .left) ∙ ways j .1 (times (j .before) .1 (totals (j .before .before) .1 (slots (j .before .before .before) .1 (right, p .slots), surveyed-totals _ shape (p .rows) known .1 (p .totals)), p .times), surveyed-ends _ shape (p .rows) known .1 (p .ends))))
+    let s = j .before .before .before in
+    fails _ shape _ (c .if5 .left)
+    (λ p. let right = s .queues-right .ensures .1 (p .rows) (λ standing known. surveyed-totals _ shape (p .rows) known .1 (p .totals)) in
+    let known = s .queues-right .ensures .0 right .2 in
+    false≢true (sym (c .if5 .left) ∙ ways j .1 (times (j .before) .1 (slots (j .before .before) .1 (right, p .slots), p .times), surveyed-ends _ shape (p .rows) known .1 (p .ends))))
 
 pub check-spec : {M : Type 1} → statement M
 check-spec =
     tie.close
     (tie.spec
-    survey-requires
+    queues-right-requires
     slots-right-requires
-    totals-right-requires
     times-differ-requires
     longest-requires
     no-circle-requires
