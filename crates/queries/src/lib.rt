@@ -18,7 +18,9 @@ pub struct RunningAnswer {
 pub fn running_of(t: Table) -> RunningAnswer
     ensures { λ r. ⌜ r ≡ running-answer t ⌝ }
 {
-    let own = numbers(&t.live, &t.priority, &t.time);
+    // By way of a name that is not lent, as in the step (docs/DECISIONS.md, "What a call costs").
+    let of_own = numbers(&t.live, &t.priority, &t.time);
+    let own = of_own;
     let current = numbers(&t.live, &t.current_priority, &t.current_time);
     let c = check(
         t.clock,
@@ -80,7 +82,8 @@ fn thread_refused(number: u8) -> ThreadAnswer
 pub fn thread_of(t: Table, thread: u8) -> ThreadAnswer
     ensures { λ r. ⌜ r ≡ thread-answer t thread ⌝ }
 {
-    let own = numbers(&t.live, &t.priority, &t.time);
+    let of_own = numbers(&t.live, &t.priority, &t.time);
+    let own = of_own;
     let current = numbers(&t.live, &t.current_priority, &t.current_time);
     let c = check(
         t.clock,
@@ -147,7 +150,8 @@ fn waiting(n: u8) -> u8
 pub fn resource_of(t: Table, resource: u8) -> ResourceAnswer
     ensures { λ r. ⌜ r ≡ resource-answer t resource ⌝ }
 {
-    let own = numbers(&t.live, &t.priority, &t.time);
+    let of_own = numbers(&t.live, &t.priority, &t.time);
+    let own = of_own;
     let current = numbers(&t.live, &t.current_priority, &t.current_time);
     let c = check(
         t.clock,

@@ -58,8 +58,8 @@ returns-2 c =
     let w = c .before .before in
     c .resource-refused2 .ensures ∙ rw (found-sound _ (checked (w .before .before)) (w .before .if1 .left), lt-ltb 15 (start (w .before .before) .args .resource) (omega (arith, w .wide .ensures .0, c .before .if2 .taken)))
 
-element-copy-out-t32 : tie.Need-element-copy-out-t32
-element-copy-out-t32 c = search needs
+element-copy-out-t33 : tie.Need-element-copy-out-t33
+element-copy-out-t33 c = search needs
 
 element-copy-out-waiting : tie.Need-element-copy-out-waiting
 element-copy-out-waiting c = search needs
@@ -90,7 +90,7 @@ resource-of-spec =
     wide-requires
     resource-refused-requires-2
     returns-2
-    element-copy-out-t32
+    element-copy-out-t33
     element-copy-out-waiting
     waiting-requires
     returns-3)

@@ -71,38 +71,38 @@ returns-3 c =
     c .thread-refused3 .ensures
     ∙ rw (found-sound (a .t1) (checked (w .before .before)) (w .before .if1 .left), le-ltb 31 (a .thread) (omega (arith, w .wide .ensures .0, c .before .before .before .if2 .left)), ← w .wide .ensures .0, ne-eqb _ _ (c .before .if3 .taken)) refl
 
-element-copy-out-t32 : tie.Need-element-copy-out-t32
-element-copy-out-t32 c = search needs
+element-copy-out-t33 : tie.Need-element-copy-out-t33
+element-copy-out-t33 c = search needs
 
-mul-t35 : tie.Need-mul-t35
-mul-t35 c = search needs
+mul-t36 : tie.Need-mul-t36
+mul-t36 c = search needs
 
-element-copy-out-t16 : tie.Need-element-copy-out-t16
-element-copy-out-t16 c = search needs
+element-copy-out-t17 : tie.Need-element-copy-out-t17
+element-copy-out-t17 c = search needs
 
-element-copy-out-t40 : tie.Need-element-copy-out-t40
-element-copy-out-t40 c = search needs
+element-copy-out-t41 : tie.Need-element-copy-out-t41
+element-copy-out-t41 c = search needs
 
-mul-t41 : tie.Need-mul-t41
-mul-t41 c = search needs
+mul-t42 : tie.Need-mul-t42
+mul-t42 c = search needs
 
-element-copy-out-t44 : tie.Need-element-copy-out-t44
-element-copy-out-t44 c = search needs
+element-copy-out-t45 : tie.Need-element-copy-out-t45
+element-copy-out-t45 c = search needs
 
-element-copy-out-t47 : tie.Need-element-copy-out-t47
-element-copy-out-t47 c = search needs
+element-copy-out-t48 : tie.Need-element-copy-out-t48
+element-copy-out-t48 c = search needs
 
-mul-t48 : tie.Need-mul-t48
-mul-t48 c = search needs
+mul-t49 : tie.Need-mul-t49
+mul-t49 c = search needs
 
-element-copy-out-t51 : tie.Need-element-copy-out-t51
-element-copy-out-t51 c = search needs
+element-copy-out-t52 : tie.Need-element-copy-out-t52
+element-copy-out-t52 c = search needs
 
-mul-t52 : tie.Need-mul-t52
-mul-t52 c = search needs
+mul-t53 : tie.Need-mul-t53
+mul-t53 c = search needs
 
-element-copy-out-t55 : tie.Need-element-copy-out-t55
-element-copy-out-t55 c = search needs
+element-copy-out-t56 : tie.Need-element-copy-out-t56
+element-copy-out-t56 c = search needs
 
 -- the answer is written out, so that the refusal of a wrong value names it
 returns-4 : tie.Need-returns-4
@@ -132,15 +132,15 @@ thread-of-spec =
     element-copy-out-if3
     thread-refused-requires-3
     returns-3
-    element-copy-out-t32
-    mul-t35
-    element-copy-out-t16
-    element-copy-out-t40
-    mul-t41
-    element-copy-out-t44
-    element-copy-out-t47
-    mul-t48
-    element-copy-out-t51
-    mul-t52
-    element-copy-out-t55
+    element-copy-out-t33
+    mul-t36
+    element-copy-out-t17
+    element-copy-out-t41
+    mul-t42
+    element-copy-out-t45
+    element-copy-out-t48
+    mul-t49
+    element-copy-out-t52
+    mul-t53
+    element-copy-out-t56
     returns-4)
