@@ -71,6 +71,7 @@ static struct {
     unsigned long long wrong_alone[WRONGS], at_clock; /* tables unsound by one wrong of totals, sound with a total equal to the clock */
     unsigned long long outcomes[OUTCOMES], alone[RULES], several, places[LOCKTABLE_BLOCK_RECORDS]; /* of log calls */
     unsigned long long starts[STARTS], spares[2][SPARES]; /* without a priority, with one */
+    unsigned long long circles[LOCKTABLE_RESOURCES + 1], led_back[LOCKTABLE_RESOURCES + 1]; /* by their holders */
 } run;
 
 /* Mixed twice, so that runs of neighbouring seeds have no test in common. */
@@ -289,9 +290,22 @@ static void history(struct dice *d, const struct mood *m, struct locktable *t, u
     }
 }
 
+/* At the end of a chain the first thread runs, and each way in it leads there: a request of its own for a resource in it is refused. The
+   same table with a request of that kind in it, a circle, is unsound. */
+static void compare_led_back(struct dice *d, const struct mood *m, const struct chain *c, unsigned length, struct locktable t)
+{
+    unsigned threads = 1 + roll(d, length), answer[ANSWER];
+    compare(STEP, &t, (struct locktable_record){ LOCKTABLE_P, c->thread[0], c->resource[threads - 1], 0 }, answer);
+    run.led_back[threads] += answer[0] == LOCKTABLE_CIRCLE;
+    if (threads > 1) {
+        close_circle(d, c, threads, &t);
+        run.circles[threads] += !compare_lone(d, m, t);
+    }
+}
+
 /* A chain of holders and a request in it, every second time at its far end: by chance alone the walk is seldom longer than two. One chain in
    four is as long as there are resources, so that the highest count comes up often. */
-static void start_with_chain(struct dice *d, struct locktable *t)
+static void start_with_chain(struct dice *d, const struct mood *m, struct locktable *t)
 {
     unsigned length = roll(d, 4) == 0 ? LOCKTABLE_RESOURCES : 1 + roll(d, LOCKTABLE_RESOURCES), answer[ANSWER];
     unsigned waiting_percent = roll(d, 2) == 0 ? 100 : 30, gap = roll(d, 2) == 0 ? 1 : 1 + roll(d, 100);
@@ -299,6 +313,7 @@ static void start_with_chain(struct dice *d, struct locktable *t)
     struct chain c;
     make_chain(d, length, waiting_percent, gap, t, &c);
     compare(STEP, t, (struct locktable_record){ LOCKTABLE_P, c.thread[LAST_THREAD], c.resource[at], 0 }, answer);
+    compare_led_back(d, m, &c, length, *t);
 }
 
 /* A shipment, on a table of any kind or on the empty one. All ids may come then. */
@@ -318,7 +333,7 @@ static void start(struct dice *d, struct mood *m, struct locktable *t)
     make_table(d, m, t);
     run.made[compare_lone(d, m, *t)]++;
     if (which == 0) {
-        start_with_chain(d, t);
+        start_with_chain(d, m, t);
         m->threads = LOCKTABLE_THREADS;
         m->resources = LOCKTABLE_RESOURCES;
     } else if (which > 1 || !model_sound(t)) {
@@ -595,7 +610,14 @@ static void print_totals(void)
     printf("tables unsound only because totals are");
     for (int i = 0; i < WRONGS; i++)
         printf("%s %s: %llu", i > 0 ? "," : "", wrong_names[i], run.wrong_alone[i]);
-    printf("; sound with one equal to the clock: %llu\n", run.at_clock);
+    printf("; sound with one equal to the clock: %llu", run.at_clock);
+    printf("\ntables unsound because of a circle, by its holders, from 2:");
+    for (int i = 2; i <= LOCKTABLE_RESOURCES; i++)
+        printf(" %llu", run.circles[i]);
+    printf("\nsteps refused with %d, by the holders on the chain, from 1:", LOCKTABLE_CIRCLE);
+    for (int i = 1; i <= LOCKTABLE_RESOURCES; i++)
+        printf(" %llu", run.led_back[i]);
+    printf("\n");
     print_terminal_totals();
     print_log_totals();
 }
@@ -625,6 +647,19 @@ static bool all_met_in_totals(void)
             met = false, printf("FAILED: no table was unsound only because a total was %s\n", wrong_names[i]);
     if (run.at_clock == 0)
         met = false, printf("FAILED: no sound table had a total equal to the clock\n");
+    return met;
+}
+
+/* Of circles and of chains that lead back to the requester each length. */
+static bool all_met_in_circles(void)
+{
+    bool met = true;
+    for (int i = 1; i <= LOCKTABLE_RESOURCES; i++) {
+        if (run.led_back[i] == 0)
+            met = false, printf("FAILED: no step was refused because of a chain of %d holders\n", i);
+        if (i > 1 && run.circles[i] == 0)
+            met = false, printf("FAILED: no table was unsound because of a circle of %d holders\n", i);
+    }
     return met;
 }
 
@@ -660,6 +695,7 @@ static bool all_met(void)
         if (run.steps[i][LOCKTABLE_NOT_SOUND] == 0)
             met = false, printf("FAILED: no unsound table was given an event of kind %d\n", i);
     met &= all_met_in_totals();
+    met &= all_met_in_circles();
     met &= all_met_in_terminal();
     return all_met_in_logs() && met;
 }

@@ -373,6 +373,13 @@ void make_chain(struct dice *d, unsigned length, unsigned waiting_percent, unsig
     draw_totals(d, t);
 }
 
+void close_circle(const struct dice *d, const struct chain *c, unsigned threads, struct locktable *t)
+{
+    put(t, c->resource[threads - 1], c->thread[0]);
+    model_set_currents(t);
+    draw_totals(d, t);
+}
+
 void fill_with_noise(struct dice *d, struct locktable *t)
 {
     uint8_t *bytes = (uint8_t *)t;

@@ -33,6 +33,9 @@ void make_table(struct dice *d, const struct mood *m, struct locktable *t);
 enum { LAST_THREAD = LOCKTABLE_THREADS - 1, LAST_RESOURCE = LOCKTABLE_RESOURCES - 1 };
 struct chain { uint8_t thread[LOCKTABLE_THREADS], resource[LOCKTABLE_RESOURCES]; };
 void make_chain(struct dice *d, unsigned length, unsigned waiting_percent, unsigned gap, struct locktable *t, struct chain *c);
+/* Closes such a chain to a circle of its first so many threads, 2 at least: the one that waited for nothing waits for what the last of them
+   holds. Every other rule is kept. */
+void close_circle(const struct dice *d, const struct chain *c, unsigned threads, struct locktable *t);
 void fill_with_noise(struct dice *d, struct locktable *t);
 
 /* Four bytes of any kind: the log does not judge them. */

@@ -1,5 +1,5 @@
 -- Where chains of waiting lead.
 pub mod Steps
-pub mod Chain
 pub mod Next
+pub mod Chain
 pub mod Climbs

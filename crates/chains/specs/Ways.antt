@@ -7,8 +7,8 @@ use lib.Dec.{leb}
 use Rattle.table.specs.Table.{at}
 use Rattle.chains.specs.Marks.{marked, mark}
 
--- From thread t, with n nodes left: the threads on the way from it, up to the first that is seen or waits for nothing, marked in `way`
--- besides those that are; 0 if the nodes run out or there is no such thread or resource.
+-- From thread t, with n nodes left: `way` with all threads marked that are on the way from it, up to the first that is seen or waits
+-- for nothing; 0 if the nodes run out or there is no such thread or resource.
 unfoldable mutual
   pub thread-way : ℕ → List ℕ → List ℕ → ℕ → ℕ → ℕ → ℕ
   thread-way zero waits holders seen way t = 0

@@ -10,8 +10,8 @@ use crate::marks::marked;
 use table::Table;
 use table::queues::wide;
 
-// The threads on the way from t, up to the first that is seen or waits for nothing: they are marked in `way`, besides those that are. 0 if
-// the steps run out, or at a thread or resource that there is not.
+// The way from t: `way` with all threads marked that are on it, up to the first that is seen or waits for nothing. 0, which marks nobody,
+// if the steps run out or there is no such thread or resource.
 pub fn from_thread<'a>(
     waits: &'a [u8; Table::THREADS],
     holders: &'a [u8; Table::RESOURCES],
@@ -65,8 +65,8 @@ pub fn from_resource<'a>(
 pub const NODES: u32 = 64;
 
 // Whether the way from every thread ends. Only threads that wait are looked at, each by the holder of what it waits for: the way from
-// others ends at once. Seen are the threads whose way is known to end, so that a later way stops where it meets one: each thread is walked
-// over once. The way under test is marked beside them, since one that comes back to its own marks is a circle.
+// others ends at once. Seen are threads whose way is known to end, so that a later way stops where it meets one: each is walked over once.
+// The way that is walked is marked beside them and is seen only when it has ended: one that comes back to its own marks is a circle.
 pub fn no_circle<'a>(waits: &'a [u8; Table::THREADS], holders: &'a [u8; Table::RESOURCES]) -> bool
     ensures { λ b. ⌜ (b ≡ true) ↔ ((th : ℕ) → th < 32 → Ends-from (now (waits .entry)) (now (holders .entry)) th) ⌝ }
 {

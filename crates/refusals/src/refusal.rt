@@ -89,14 +89,13 @@ fn leads<'a>(
     t: u8,
 ) -> bool
     requires { ⌜ r < 16 ⌝ }
-    ensures { λ b. ⌜ (t < 32 → b ≡ marked (resource-way 64 (now (waits .entry)) (now (holders .entry)) 0 0 r) t) ⌝ }
+    ensures { λ b. ⌜ b ≡ marked (resource-way 64 (now (waits .entry)) (now (holders .entry)) 0 0 r) t ⌝ }
 {
     if holders[wide(r)] == Table::NOBODY {
         return false;
     }
     let way = from_resource(waits, holders, 0, 0, r, NODES);
-    let i = t as usize;
-    i < Table::THREADS && marked(way, i)
+    marked(way, t as usize)
 }
 
 // The refusals by the queues: 9, 10 or 11; 0 if none applies. A P or V that names no resource was refused by its record.

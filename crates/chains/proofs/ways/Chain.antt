@@ -11,6 +11,7 @@ use Rattle.table.specs.Table.{at}
 use Rattle.chains.specs.Marks.{marked, mark}
 use Rattle.chains.specs.Ways.{thread-way, resource-way, Ending, here, goes-on, Ends-from}
 use Rattle.chains.proofs.marks.Bits.{mark-some, all-marked}
+use Rattle.chains.proofs.ways.Next.{ends-low}
 use Rattle.chains.proofs.ways.Steps.{thread-none, thread-past, thread-seen, thread-free, thread-on, resource-none, resource-on}
 
 module _ (waits holders : List ℕ) where
@@ -40,12 +41,12 @@ module _ (waits holders : List ℕ) where
     enough (here {t = t} h w) n way l e = go (marked seen t) refl
       where
         go : (b : Bool) → marked seen t ≡ b → ⊥
-        go true s = mark-some way t (sym (thread-seen waits holders seen way n (n - 1) (omega arith) t h s) ∙ e)
-        go false s = mark-some way t (sym (thread-free waits holders seen way n (n - 1) (omega arith) t h s w) ∙ e)
+        go true s = mark-some way t h (sym (thread-seen waits holders seen way n (n - 1) (omega arith) t h s) ∙ e)
+        go false s = mark-some way t h (sym (thread-free waits holders seen way n (n - 1) (omega arith) t h s w) ∙ e)
     enough (goes-on {t = t} {k = k} h w e) n way l q = go (marked seen t) refl (enough e (n - 2) (mark way t) (omega arith))
       where
         go : (b : Bool) → marked seen t ≡ b → thread-way (n - 2) waits holders seen (mark way t) (at holders (at waits t)) ≢ 0 → ⊥
-        go true s on = mark-some way t (sym (thread-seen waits holders seen way n (n - 1) (omega arith) t h s) ∙ q)
+        go true s on = mark-some way t h (sym (thread-seen waits holders seen way n (n - 1) (omega arith) t h s) ∙ q)
         go false s on =
             on
             (sym (resource-on waits holders seen (mark way t) (n - 1) (n - 2) (omega arith) (at waits t) w)
@@ -63,7 +64,7 @@ module _ (waits holders : List ℕ) where
       Found way t after = Ends-from waits holders t × ((u : ℕ) → marked after u ≡ true → (marked way u ≡ true) ⊎ Ends-from waits holders u)
 
       one-more : (way t : ℕ) → Ends-from waits holders t → (u : ℕ) → marked (mark way t) u ≡ true → (marked way u ≡ true) ⊎ Ends-from waits holders u
-      one-more way t ends = all-marked {Q = λ u. (marked way u ≡ true) ⊎ Ends-from waits holders u} way t (λ u m. inl m) (inr ends)
+      one-more way t ends = all-marked {Q = λ u. (marked way u ≡ true) ⊎ Ends-from waits holders u} way t (ends-low waits holders ends) (λ u m. inl m) (inr ends)
 
       -- a way that ends at t
       stops : (way t after : ℕ) → after ≡ mark way t → Ends-from waits holders t → Found way t after

@@ -43,7 +43,7 @@ module _ (t : Table) (good : Good t) {waits holders currents : List ℕ} (tracks
       e = thread-free waits holders 0 way n (n - 1) (omega arith) u h (nobody-marked u) (omega (arith, graph .free u h (λ r. free-waits (queues t) u r f)))
 
       tells : Tells (marked (mark way u) x) ((marked way x ≡ true) ⊎ (u ≡ x))
-      tells = mark-tells way u x
+      tells = mark-tells way u x h
 
       back : (marked way x ≡ true) ⊎ Reach (children (queues t)) u x → (marked way x ≡ true) ⊎ (u ≡ x)
       back (inl m) = inl m
@@ -59,7 +59,7 @@ module _ (t : Table) (good : Good t) {waits holders currents : List ℕ} (tracks
           ∙ ap (walk (n - 2) (mark way u)) (graph .held v r o)
 
       tells : Tells (marked (mark way u) x) ((marked way x ≡ true) ⊎ (u ≡ x))
-      tells = mark-tells way u x
+      tells = mark-tells way u x h
 
       there : (marked (mark way u) x ≡ true) ⊎ Reach (children (queues t)) v x → (marked way x ≡ true) ⊎ Reach (children (queues t)) u x
       there (inl m) = ⊎-elim inl (λ q. inr (inl q)) (tells .0 m)

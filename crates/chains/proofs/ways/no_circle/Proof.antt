@@ -81,7 +81,7 @@ loop-again c =
     (λ v. (s .inv .2 _ (sym (w .4 .ensures) ∙ not-false _ (v .0 .left)), rw (v .1) (s .inv .2)))
     (w .5 .came) in
     let new = next-ends _ _ (s .i) _ _ (c .before .wide .ensures .0) (w .0 .taken) (w .2 .ensures .0) (omega arith) (k .0) in
-    (omega arith, below-more _ _ (s .inv .1) new, rw (w .7, w .6 .ensures) (all-marked (w .5 .seen) (s .i) (k .1) new)))
+    (omega arith, below-more _ _ (s .inv .1) new, rw (w .7, w .6 .ensures) (all-marked (w .5 .seen) (s .i) (omega arith) (k .1) new)))
     (λ w. (omega arith, below-more _ _ (s .inv .1) (0, here {t = s .i} (omega arith) (omega (arith, w .0 .left))), rw (w .1) (s .inv .2)))
     (c .if1 .came)
 

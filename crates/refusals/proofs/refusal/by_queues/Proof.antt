@@ -46,7 +46,7 @@ module _ {t : Table} {waits holders owns currents : List ℕ} (known : Known t w
 no-9 : (c : tie.Joined1) (t : Table) (owns currents : List ℕ) → let a = c .before .args in Known t (a .waits .now) (a .holders .now) owns currents → a .e .thread < 32 →
     (eqb (a .e .kind) 4 && leads t (a .e .argument) (a .e .thread)) ≡ false
 no-9 c t owns currents known h = ⊎-elim
-    (λ v. rw (v .0 .taken, ← known-leads known _ _ h, ← v .1 .ensures h, v .2 .left))
+    (λ v. rw (v .0 .taken, ← known-leads known _ _ h, ← v .1 .ensures, v .2 .left))
     (λ v. rw (ne-eqb _ _ (v .left)))
     (c .if1 .came)
 
@@ -71,7 +71,7 @@ returns : tie.Need-returns
 unfolding lowest by-queues
 returns c t owns currents known h =
     let kind = c .before .before .if1 .taken in
-    rw (kind, ← known-leads known _ _ h, ← c .before .leads .ensures h, c .if2 .taken)
+    rw (kind, ← known-leads known _ _ h, ← c .before .leads .ensures, c .if2 .taken)
 
 wide-requires : tie.Need-wide-requires
 wide-requires c κs = search needs

@@ -25,7 +25,7 @@ element-copy-out-if1 : tie.Need-element-copy-out-if1
 element-copy-out-if1 c = omega (arith, c .wide .ensures .0, c .before .pre)
 
 returns : tie.Need-returns
-returns c low = sym (free-way _ _ _ _ (c .before .before .before .pre) (rw (c .before .before .wide .ensures .0) at (c .if1 .taken)))
+returns c = sym (free-way _ _ _ _ (c .before .before .before .pre) (rw (c .before .before .wide .ensures .0) at (c .if1 .taken)))
 
 from-resource-requires : tie.Need-from-resource-requires
 from-resource-requires c κs = search needs
@@ -34,10 +34,7 @@ marked-requires : tie.Need-marked-requires
 marked-requires c κs = search needs
 
 returns-2 : tie.Need-returns-2
-returns-2 c low = rw (c .before .before .from-resource .ensures) at (c .marked .ensures)
-
-returns-3 : tie.Need-returns-3
-returns-3 c low = absurd (omega arith)
+returns-2 c = rw (c .before .from-resource .ensures) at (c .marked .ensures)
 
 pub leads-spec : {M : Type 1} → statement M
 leads-spec =
@@ -48,5 +45,4 @@ leads-spec =
     returns
     from-resource-requires
     marked-requires
-    returns-2
-    returns-3)
+    returns-2)
