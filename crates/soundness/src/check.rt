@@ -74,27 +74,27 @@ pub fn check<'a>(
 {
     let mut waits = [Table::NOTHING; Table::THREADS];
     let mut holders = [Table::NOBODY; Table::RESOURCES];
-    let right = queues_right(
+    let right = slots_right(
         clock,
-        queue,
-        lengths,
         live,
+        priority,
+        time,
+        current_priority,
+        current_time,
         requests,
-        releases,
-        &mut waits,
-        &mut holders,
-    );
+    )
+        && queues_right(
+            clock,
+            queue,
+            lengths,
+            live,
+            requests,
+            releases,
+            &mut waits,
+            &mut holders,
+        );
     // Where no queue has a second entry nobody waits, so that the ways need not be walked.
     let sound = right
-        && slots_right(
-            clock,
-            live,
-            priority,
-            time,
-            current_priority,
-            current_time,
-            requests,
-        )
         && times_differ(live, time)
         && (longest(lengths) < 2 || no_circle(&waits, &holders))
         && same(
