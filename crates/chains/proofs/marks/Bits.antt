@@ -6,7 +6,7 @@ use mathlib.Core.Logic.{_≢_, _↔_, _⊎_, inl, inr, ⊎-elim}
 use native.Mathlib.Nat.{one-mul, zero-div, div-eq-of-lt, max-zero}
 use native.Mathlib.Decide.{ℕ-discrete}
 use native.Mathlib.Omega.{arith, sub-cases}
-use lib.Dec.{eqb, leb, lit<}
+use lib.Dec.{leb, lit<}
 use lib.Pow.{pow-add, pow-lt, shl-exact, shl-shr}
 use lib.Bits.{bitOr, or-shr, or-step, shifted-even}
 use borrow.Author.Tests.{lt-leb, eq-eqb}
@@ -39,12 +39,12 @@ one-other t u n =
     (λ p _. let e : t ≡ u + suc (t - u - 1) = omega (arith, n) in rw e (one-below u (t - u - 1)))
 
 -- so whom one marks is marked
-pub mark-marks : (word t : ℕ) → t < 32 → marked (mark word t) t ≡ true
+mark-marks : (word t : ℕ) → t < 32 → marked (mark word t) t ≡ true
 unfolding marked mark
 mark-marks word t h = rw (lt-leb 32 t h, or-bit word (2 ^ t) t, one-there t) (eq-eqb (max (word / 2 ^ t % 2) 1) 1 (omega arith))
 
 -- and all others are as they were
-pub mark-other : (word t u : ℕ) → t < 32 → u ≢ t → marked (mark word t) u ≡ marked word u
+mark-other : (word t u : ℕ) → t < 32 → u ≢ t → marked (mark word t) u ≡ marked word u
 unfolding marked mark
 mark-other word t u h n = rw (lt-leb 32 t h, or-bit word (2 ^ t) u, one-other t u n, max-zero)
 

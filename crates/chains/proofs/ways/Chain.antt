@@ -32,7 +32,7 @@ module _ (waits holders : List ℕ) where
       go (no q) on = on (omega arith)
 
   -- so a way passes less than 32 holders
-  pub short : {t k : ℕ} → Ending waits holders t k → k < 32
+  short : {t k : ℕ} → Ending waits holders t k → k < 32
   short {k = k} e = pigeons-by 32 (suc k) (λ i a. Ending waits holders a i) (heights e) (λ i j a. ending-unique)
 
   module _ (seen : ℕ) where

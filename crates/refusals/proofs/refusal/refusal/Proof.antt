@@ -1,7 +1,6 @@
 -- `refusals::refusal::refusal` meets its contract: the parts follow each other as `proofs/given/Parts.antt` says. Assumes nothing.
 use Prim.Native.Nat.{ℕ}
 use mathlib.Core.Path.{_≡_, sym, _∙_}
-use native.Mathlib.Omega.{arith}
 use borrow.Author.Needs.{needs}
 use Rattle.table.proofs.tests.Decided.{tells-sound}
 use Rattle.refusals.specs.Refusals.{lowest, by-record}

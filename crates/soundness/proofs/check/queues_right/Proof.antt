@@ -1,5 +1,5 @@
 -- `soundness::check::queues_right` meets its contract. Assumes nothing.
-use mathlib.Core.Path.{_≡_, sym, _∙_}
+use mathlib.Core.Path.{sym, _∙_}
 use mathlib.Core.Bool.{false≢true}
 use borrow.Author.Needs.{needs}
 use Rattle.soundness.proofs.check.queues_right.Statement.{statement}
