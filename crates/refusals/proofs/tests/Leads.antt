@@ -25,7 +25,7 @@ use Rattle.chains.proofs.marks.Bits.{nobody-marked, mark-tells}
 use Rattle.chains.proofs.ways.Steps.{thread-past, thread-free, thread-on, resource-past, resource-on}
 use Rattle.chains.proofs.ways.Climbs.{Graphed, tracked-graphed}
 use Rattle.refusals.specs.Refusals.{leads}
-use Rattle.refusals.proofs.tests.Tells.{tells-behind}
+use Rattle.refusals.proofs.tests.Tells.{retell, tells-behind}
 
 module _ (t : Table) (good : Good t) {waits holders currents : List ℕ} (tracks : Tracks t waits holders currents) where
   graph : Graphed t waits holders
@@ -37,19 +37,17 @@ module _ (t : Table) (good : Good t) {waits holders currents : List ℕ} (tracks
 
   -- it marks u and whom u waits for, directly or through others
   climb-marks : {u k : ℕ} → Climb (children (queues t)) u k → u < 32 → (n way x : ℕ) → k + k < n → Tells (marked (walk n way u) x) ((marked way x ≡ true) ⊎ Reach (children (queues t)) u x)
-  climb-marks (stop {t = u} f) h n way x l = ((λ m. ⊎-elim inl (λ q. inr (inl q)) (tells .0 (rw e at m))), λ w. rw e (tells .1 (back w)))
+  climb-marks (stop {t = u} f) h n way x l = rw e (retell (mark-tells way u x h) (⊎-elim inl (λ q. inr (inl q))) back)
     where
       e : walk n way u ≡ mark way u
       e = thread-free waits holders 0 way n (n - 1) (omega arith) u h (nobody-marked u) (omega (arith, graph .free u h (λ r. free-waits (queues t) u r f)))
-
-      tells : Tells (marked (mark way u) x) ((marked way x ≡ true) ⊎ (u ≡ x))
-      tells = mark-tells way u x h
 
       back : (marked way x ≡ true) ⊎ Reach (children (queues t)) u x → (marked way x ≡ true) ⊎ (u ≡ x)
       back (inl m) = inl m
       back (inr (inl q)) = inr q
       back (inr (inr d)) = absurd (free-independent (children (queues t)) f d)
-  climb-marks (hop {t = u} {h = v} {n = k} (r, w, o) c) h n way x l = go (climb-marks c (thread-low t good v (parent-live (good .order) u v (r, w, o))) (n - 2) (mark way u) x (omega arith))
+  climb-marks (hop {t = u} {h = v} {n = k} (r, w, o) c) h n way x l =
+      rw e (retell (climb-marks c (thread-low t good v (parent-live (good .order) u v (r, w, o))) (n - 2) (mark way u) x (omega arith)) there back)
     where
       e : walk n way u ≡ walk (n - 2) (mark way u) v
       e =
@@ -58,21 +56,14 @@ module _ (t : Table) (good : Good t) {waits holders currents : List ℕ} (tracks
           ∙ resource-on waits holders 0 (mark way u) (n - 1) (n - 2) (omega arith) r (resource-low t good u r (w .0))
           ∙ ap (walk (n - 2) (mark way u)) (graph .held v r o)
 
-      tells : Tells (marked (mark way u) x) ((marked way x ≡ true) ⊎ (u ≡ x))
-      tells = mark-tells way u x h
-
       there : (marked (mark way u) x ≡ true) ⊎ Reach (children (queues t)) v x → (marked way x ≡ true) ⊎ Reach (children (queues t)) u x
-      there (inl m) = ⊎-elim inl (λ q. inr (inl q)) (tells .0 m)
+      there (inl m) = ⊎-elim inl (λ q. inr (inl q)) (mark-tells way u x h .0 m)
       there (inr d) = inr (inr (hop-reach (children (queues t)) (r, w, o) d))
 
       back : (marked way x ≡ true) ⊎ Reach (children (queues t)) u x → (marked (mark way u) x ≡ true) ⊎ Reach (children (queues t)) v x
-      back (inl m) = inl (tells .1 (inl m))
-      back (inr (inl q)) = inl (tells .1 (inr q))
+      back (inl m) = inl (mark-tells way u x h .1 (inl m))
+      back (inr (inl q)) = inl (mark-tells way u x h .1 (inr q))
       back (inr (inr d)) = inr (past (children (queues t)) (parents (good .order)) (r, w, o) d)
-
-      go : Tells (marked (walk (n - 2) (mark way u) v) x) ((marked (mark way u) x ≡ true) ⊎ Reach (children (queues t)) v x) →
-          Tells (marked (walk n way u) x) ((marked way x ≡ true) ⊎ Reach (children (queues t)) u x)
-      go on = ((λ m. there (on .0 (rw e at m))), λ d. rw e (on .1 (back d)))
 
   -- from the holder of a resource, nobody being marked before
   holder-marks : (v r x : ℕ) → holds t v r → Tells (marked (walk 63 0 v) x) ((marked 0 x ≡ true) ⊎ Reach (children (queues t)) v x)
