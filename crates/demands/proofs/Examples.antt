@@ -6,7 +6,7 @@ use Rattle.table.specs.declared.Table.{Table}
 use Rattle.table.specs.Table.{at, empty}
 use Rattle.table.specs.Compute.{all-below, each, member, first-or-32, differ, find-below, is-live, holder, is-waiting, waits-for, blocker, depends, is-higher, highest-behind, current, is-ready, leader, runner, ends, same, dead-zero, spare-zero, time-right, queue-right, waits-once, held-below, unreleased, balance-right, totals-low, current-right, is-sound}
 use Rattle.refusals.specs.Refusals.{malformed, leads, holds-any, unsound, by-record, by-thread, by-queues, refusals, lowest}
-use Rattle.events.specs.Events.{tabulate, settled, with-slot, with-queue, changed, highest-own, heir, named, event-of}
+use Rattle.events.specs.Events.{tabulate, settled, with-slot, with-queue, changed, highest-current, heir, named, event-of}
 use Rattle.events.specs.Count.{walk, request-count, release-count, count}
 use Rattle.queries.specs.Queries.{thread-refusals, thread-told, thread-answer}
 use Rattle.locks.specs.Answers.{accepted, refused, carried-out, answerOf}
@@ -60,12 +60,12 @@ marked =
         holder-of-0 = 32;
       };
     } ∷ (
-    -- Four threads: the last P has count 2 and 0 runs; then V makes 2 the next holder, which runs at priority 50.
+    -- Four threads: the last P has count 2 and 0 runs; then, by document 02 (K5), V makes 1 the next holder, which runs at priority 50.
     record {
       input = bytes 1 0 1 0 ∷ bytes 4 0 0 0 ∷ bytes 1 1 5 0 ∷ bytes 4 1 1 0 ∷ bytes 4 1 0 0 ∷ bytes 1 2 9 0 ∷ bytes 4 2 0 0 ∷ bytes 1 3 50 0 ∷ bytes 4 3 1 0 ∷ bytes 5 0 0 0 ∷ [];
       wanted = record {
-        answers = result 0 0 1 1 ∷ result 0 0 0 1 ∷ result 0 1 1 5 ∷ result 0 1 0 5 ∷ result 0 0 1 5 ∷ result 0 2 1 9 ∷ result 0 0 1 9 ∷ result 0 3 1 50 ∷ result 0 0 2 50 ∷ result 0 2 2 50 ∷ [];
-        holder-of-0 = 2;
+        answers = result 0 0 1 1 ∷ result 0 0 0 1 ∷ result 0 1 1 5 ∷ result 0 1 0 5 ∷ result 0 0 1 5 ∷ result 0 2 1 9 ∷ result 0 0 1 9 ∷ result 0 3 1 50 ∷ result 0 0 2 50 ∷ result 0 1 2 50 ∷ [];
+        holder-of-0 = 1;
       };
     } ∷ (
     -- Resource 15 is taken, 16 gives 4. Thread 31 is created, 32 gives 3.
@@ -104,7 +104,7 @@ marked =
 
 -- each list of records gives its outcome
 pub as-marked : map (λ c. outcome empty (c .input)) marked ≡ map (λ c. c .wanted) marked
-unfolding all-below each member first-or-32 differ find-below is-live holder is-waiting waits-for blocker depends is-higher highest-behind current is-ready leader runner ends same dead-zero spare-zero time-right queue-right waits-once held-below unreleased balance-right totals-low current-right is-sound malformed leads holds-any unsound by-record by-thread by-queues refusals lowest tabulate settled with-slot with-queue changed highest-own heir named event-of walk request-count release-count count accepted refused carried-out answerOf
+unfolding all-below each member first-or-32 differ find-below is-live holder is-waiting waits-for blocker depends is-higher highest-behind current is-ready leader runner ends same dead-zero spare-zero time-right queue-right waits-once held-below unreleased balance-right totals-low current-right is-sound malformed leads holds-any unsound by-record by-thread by-queues refusals lowest tabulate settled with-slot with-queue changed highest-current heir named event-of walk request-count release-count count accepted refused carried-out answerOf
 as-marked = refl
 
 -- the table after the records
@@ -119,5 +119,5 @@ totals t th = let a = thread-answer t th in (a .requests, a .releases)
 -- Document 02, K2, on the first eight of the twelve records: thread 1 took the lock and gave it back, its second request is refused and doesn't count; thread 3 waited and holds it now; thread 2 has
 -- done neither.
 pub as-counted : map (totals (left empty (bytes 1 1 10 0 ∷ bytes 4 1 0 0 ∷ bytes 1 3 30 0 ∷ bytes 4 3 0 0 ∷ bytes 1 2 20 0 ∷ bytes 5 2 0 0 ∷ bytes 4 1 0 0 ∷ bytes 5 1 0 0 ∷ []))) (1 ∷ (2 ∷ (3 ∷ []))) ≡ (1, 1) ∷ ((0, 0) ∷ ((1, 0) ∷ []))
-unfolding all-below each member first-or-32 differ find-below is-live holder is-waiting waits-for blocker depends is-higher highest-behind current is-ready leader runner ends same dead-zero spare-zero time-right queue-right waits-once held-below unreleased balance-right totals-low current-right is-sound malformed leads holds-any unsound by-record by-thread by-queues refusals lowest tabulate settled with-slot with-queue changed highest-own heir named event-of walk request-count release-count count accepted refused carried-out answerOf thread-refusals thread-told thread-answer
+unfolding all-below each member first-or-32 differ find-below is-live holder is-waiting waits-for blocker depends is-higher highest-behind current is-ready leader runner ends same dead-zero spare-zero time-right queue-right waits-once held-below unreleased balance-right totals-low current-right is-sound malformed leads holds-any unsound by-record by-thread by-queues refusals lowest tabulate settled with-slot with-queue changed highest-current heir named event-of walk request-count release-count count accepted refused carried-out answerOf thread-refusals thread-told thread-answer
 as-counted = refl

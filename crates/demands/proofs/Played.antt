@@ -7,8 +7,10 @@ use mathlib.Core.Option.{none, some}
 use mathlib.Core.List.{List, [], _∷_}
 use native.Mathlib.Omega.{arith}
 use lib.Dec.{leb}
-use Rattle.protocol.specs.Events.{Thread, Resource, Event, State, prec, _≼_}
+use Rattle.protocol.specs.Events.{Thread, Resource, Event, «V», State}
 use Rattle.protocol.specs.Schedule.{wq}
+use Rattle.protocol.specs.Rules.{valid}
+use Rattle.protocol.proofs.Theorems.{some-heir}
 use Rattle.table.specs.declared.Table.{Table}
 use Rattle.table.specs.Table.{empty}
 use Rattle.table.proofs.tests.Reflect.{Tells, tells-le, tells-both}
@@ -16,8 +18,11 @@ use Rattle.refusals.specs.declared.Record.{Record}
 use Rattle.refusals.proofs.tests.Tells.{retell}
 use Rattle.locks.specs.declared.Done.{Done}
 use Rattle.locks.specs.Answers.{answerOf}
-use Rattle.demands.specs.Runs.{Query, running, thread, resource, Call, event, ask, Any-call, Any-calls, table-after, Chosen, Writes, History, none-yet, accepted, refused, asked}
-use Rattle.demands.proofs.TheCalls.{the-calls}
+use Rattle.demands.specs.Runs.{Query, running, thread, resource, Call, event, ask, Any-call, Any-calls, table-after, Chosen, Writes, release, History, none-yet, accepted, refused, asked}
+use Rattle.demands.proofs.InMemory.{right-any}
+use Rattle.demands.proofs.Reached.{start-reached}
+use Rattle.demands.proofs.Demand2.{after}
+use Rattle.demands.proofs.TheCalls.{the-calls, demand-2-met}
 
 -- the table after the calls and the numbers of their records, the newest first; what is an argument is worked out once
 unfoldable pub noted : Done → List ℕ → Table × List ℕ
@@ -40,10 +45,12 @@ table-is (ask running ∷ ks) = table-is ks
 table-is (ask (thread th) ∷ ks) = table-is ks
 table-is (ask (resource cs) ∷ ks) = table-is ks
 
--- calls, the numbers of their records, and the events of those that got 0
+-- calls, the numbers of their records, and the events of those that got 0; at a V where just one waits, that one follows
 pub data Tale : List Call → List ℕ → State → Type 0 where
   start : Tale [] [] []
   accept : {ks : List Call} {ns : List ℕ} {m : State} {e : Record} {ev : Event} → Writes m e ev → Tale ks ns m → Tale (event e ∷ ks) (0 ∷ ns) (ev ∷ m)
+  hand-over : {ks : List Call} {ns : List ℕ} {m : State} {e : Record} (a b : Thread) → e .kind ≡ 5 → wq m (e .argument) ≡ a ∷ b ∷ [] → b ≢ a → Tale ks ns m →
+      Tale (event e ∷ ks) (0 ∷ ns) («V» (e .thread) (e .argument) (some b) ∷ m)
   refuse : {ks : List Call} {ns : List ℕ} {m : State} {e : Record} (n : ℕ) → Tale ks ns m → Tale (event e ∷ ks) (suc n ∷ ns) m
   query : {ks : List Call} {ns : List ℕ} {m : State} {q : Query} → Tale ks ns m → Tale (ask q ∷ ks) ns m
 
@@ -56,21 +63,13 @@ abbrev tail : List ℕ → List ℕ
 tail [] = []
 tail (x ∷ xs) = xs
 
--- where the numbers are the ones worked out, the events are those of the calls
-pub history : {ks : List Call} {ns : List ℕ} {m : State} → Tale ks ns m → play ks .1 ≡ ns → History the-calls empty ks m
-unfolding noted onward play
-history start q = none-yet
-history (accept {ks = ks} {e = e} w tale) q = accepted (history tale (ap tail q)) (ap (λ (t : Table). answerOf t e .answer .number) (table-is ks) ∙ ap head q) w
-history (refuse {ks = ks} {e = e} n tale) q = refused {e = e} (history tale (ap tail q)) (λ z. absurd (omega (arith, sym (ap head q) ∙ sym (ap (λ (t : Table). answerOf t e .answer .number) (table-is ks)) ∙ z)))
-history (query tale) q = asked (history tale q)
-
--- document 01's choice, where two stand in a queue, is the second; where one does, nobody
-pub second : (m : State) (cs : Resource) (a b : Thread) → wq m cs ≡ a ∷ b ∷ [] → b ≢ a → Chosen m cs (some b)
-second m cs a b q ne = (rw q (inr (inl refl), ne), λ u w. go u (rw q at w))
+-- where two stand in a queue, the second follows; where one does, nobody
+second : (m : State) → valid m → (cs : Resource) (a b : Thread) → wq m cs ≡ a ∷ b ∷ [] → b ≢ a → Chosen m cs (some b)
+second m v cs a b q ne = let h = some-heir m v cs b (rw q (inr (inl refl), ne)) in subst (λ (x : Thread). Chosen m cs (some x)) (go (h .0) (rw q at (h .1 .among))) (h .1)
   where
-    go : (u : Thread) → ((u ≡ a) ⊎ ((u ≡ b) ⊎ ⊥)) × ¬ (u ≡ a) → prec u m ≼ prec b m
+    go : (u : Thread) → ((u ≡ a) ⊎ ((u ≡ b) ⊎ ⊥)) × ¬ (u ≡ a) → u ≡ b
     go u (inl e, n) = absurd (n e)
-    go u (inr (inl e), n) = subst (λ (x : Thread). prec x m ≼ prec b m) (sym e) (inl refl)
+    go u (inr (inl e), n) = e
     go u (inr (inr x), n) = absurd x
 
 pub nobody : (m : State) (cs : Resource) (a : Thread) → wq m cs ≡ a ∷ [] → Chosen m cs none
@@ -79,6 +78,18 @@ nobody m cs a q u w = go u (rw q at w)
     go : (u : Thread) → ¬ (((u ≡ a) ⊎ ⊥) × ¬ (u ≡ a))
     go u (inl e, n) = n e
     go u (inr x, n) = x
+
+-- where the numbers are the ones worked out, the events are those of the calls
+pub history : {ks : List Call} {ns : List ℕ} {m : State} → Tale ks ns m → Any-calls ks → play ks .1 ≡ ns → History the-calls empty ks m
+unfolding noted onward play
+history start any q = none-yet
+history (accept {ks = ks} {e = e} w tale) any q = accepted (history tale (any .1) (ap tail q)) (ap (λ (t : Table). answerOf t e .answer .number) (table-is ks) ∙ ap head q) w
+history (hand-over {ks = ks} {m = m} {e = e} a b k two ne tale) any q =
+    let h = history tale (any .1) (ap tail q) in
+    let v = after demand-2-met (right-any empty (start-reached .right)) (any .1) h .by-rules in
+    accepted h (ap (λ (t : Table). answerOf t e .answer .number) (table-is ks) ∙ ap head q) (release k (second m v (e .argument) a b two ne))
+history (refuse {ks = ks} {e = e} n tale) any q = refused {e = e} (history tale (any .1) (ap tail q)) (λ z. absurd (omega (arith, sym (ap head q) ∙ sym (ap (λ (t : Table). answerOf t e .answer .number) (table-is ks)) ∙ z)))
+history (query tale) any q = asked (history tale (any .1) q)
 
 -- whether all that is passed is bytes
 unfoldable pub in-bytes : Call → Bool

@@ -30,7 +30,7 @@ own-cprec q f g th e agree m = max-map _≼_ ≼-total to from
     from a (inr (u, d, i)) = inr (u, d, i ∙ sym (agree u d))
 
 -- the same threads with the same values have the same highest among them
-highest-map : (R Q : Thread → Precedence → Type 0) (M N : SetOf Thread) → ((u : Thread) → (u ∈ M) ↔ (u ∈ N)) → ((u : Thread) → u ∈ M → (m : Precedence) → R u m ↔ Q u m) →
+pub highest-map : (R Q : Thread → Precedence → Type 0) (M N : SetOf Thread) → ((u : Thread) → (u ∈ M) ↔ (u ∈ N)) → ((u : Thread) → u ∈ M → (m : Precedence) → R u m ↔ Q u m) →
     (th : Thread) → th ∈ Highest _≼_ R M → th ∈ Highest _≼_ Q N
 highest-map R Q M N same value th h = record {
   among = same th .0 (h .among);

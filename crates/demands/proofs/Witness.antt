@@ -16,7 +16,7 @@ use Rattle.table.specs.Table.{empty, stored}
 use Rattle.table.specs.Compute.{all-below, each, member, first-or-32, differ, find-below, is-live, holder, is-waiting, waits-for, blocker, depends, is-higher, highest-behind, current, is-ready, leader, runner, ends, same, dead-zero, spare-zero, time-right, queue-right, waits-once, held-below, unreleased, balance-right, totals-low, current-right, is-sound}
 use Rattle.refusals.specs.declared.Record.{Record}
 use Rattle.refusals.specs.Refusals.{malformed, leads, holds-any, unsound, by-record, by-thread, by-queues, refusals, lowest}
-use Rattle.events.specs.Events.{tabulate, settled, with-slot, with-queue, changed, highest-own, heir, named, event-of}
+use Rattle.events.specs.Events.{tabulate, settled, with-slot, with-queue, changed, highest-current, heir, named, event-of}
 use Rattle.events.specs.Count.{walk, request-count, release-count, count}
 use Rattle.queries.specs.Queries.{running-refusals, running-answer}
 use Rattle.locks.specs.declared.Done.{Done}
@@ -26,7 +26,7 @@ use Rattle.demands.specs.Demand3.{Since, Runs-after, by-query, by-answer
 use Rattle.demands.proofs.InMemory.{right-any}
 use Rattle.demands.proofs.Reached.{start-reached}
 use Rattle.demands.proofs.TheCalls.{the-calls, demand-3-met}
-use Rattle.demands.proofs.Played.{noted, onward, play, table-is, Tale, start, accept, refuse, query, history, second, nobody, in-bytes, all-in-bytes, tells-all-bytes}
+use Rattle.demands.proofs.Played.{noted, onward, play, table-is, Tale, start, accept, hand-over, refuse, query, history, nobody, in-bytes, all-in-bytes, tells-all-bytes}
 
 -- a record of a kind, a thread and an argument
 abbrev of : ℕ → ℕ → ℕ → Record
@@ -79,9 +79,9 @@ since =
     accept (request refl) (
     accept (release refl (nobody m₃ 1 1 refl)) (
     refuse 10 (
-    accept (release refl (second m₂ 1 2 1 refl (λ e. omega arith))) (
+    hand-over 2 1 refl refl (λ e. omega arith) (
     refuse 7 (
-    accept (release refl (second m₁ 0 0 2 refl (λ e. omega arith))) (
+    hand-over 0 2 refl refl (λ e. omega arith) (
     refuse 10 (
     accept (set-anew refl) (
     accept (create refl) (
@@ -91,15 +91,9 @@ since =
     query (query (query (
     accept (request refl) until))))))))))))))))
   where
-    -- the states in which the three V happen
-    m₁ : State
-    m₁ = Set 0 5 ∷ Create 3 5 ∷ P 2 0 ∷ P 1 1 ∷ s
-
-    m₂ : State
-    m₂ = «V» 0 0 (some 2) ∷ m₁
-
+    -- the state in which the last V happens
     m₃ : State
-    m₃ = «V» 2 1 (some 1) ∷ m₂
+    m₃ = «V» 2 1 (some 1) ∷ «V» 0 0 (some 2) ∷ Set 0 5 ∷ Create 3 5 ∷ P 2 0 ∷ P 1 1 ∷ s
 
 -- What all of it leads to: the numbers; who runs, by the query and by the answer to the last record; and the stored precedence of thread 2.
 pub record Ending : Type 0 where
@@ -120,7 +114,7 @@ ks₂ = event (of 4 0 1) ∷ event (of 3 0 2) ∷ event (of 5 0 0) ∷ event (of
 
 -- Worked out from the definitions: in the first thread 2 runs at the end, and stores thread 1's own precedence; in the second all is accepted.
 worked-out : _≡_ {A = Ending × List ℕ} (after (play (before-last ++ ks)), play ks₂ .1) (record { numbered = numbers; by-query = 2; by-answer = 2; stored-of-2 = (5, 4) }, 0 ∷ 0 ∷ 0 ∷ 0 ∷ 0 ∷ [])
-unfolding all-below each member first-or-32 differ find-below is-live holder is-waiting waits-for blocker depends is-higher highest-behind current is-ready leader runner ends same dead-zero spare-zero time-right queue-right waits-once held-below unreleased balance-right totals-low current-right is-sound malformed leads holds-any unsound by-record by-thread by-queues refusals lowest tabulate settled with-slot with-queue changed highest-own heir named event-of walk request-count release-count count done turned-away carried-out answerOf running-refusals running-answer noted onward play ended after
+unfolding all-below each member first-or-32 differ find-below is-live holder is-waiting waits-for blocker depends is-higher highest-behind current is-ready leader runner ends same dead-zero spare-zero time-right queue-right waits-once held-below unreleased balance-right totals-low current-right is-sound malformed leads holds-any unsound by-record by-thread by-queues refusals lowest tabulate settled with-slot with-queue changed highest-current heir named event-of walk request-count release-count count done turned-away carried-out answerOf running-refusals running-answer noted onward play ended after
 worked-out = refl
 
 -- The premises are met.
@@ -129,8 +123,8 @@ unfolding in-bytes all-in-bytes noted onward play ended after
 met = record {
   memory = right-any empty (start-reached .right);
   bytes = tells-all-bytes (ks′ ++ ks) .0 refl;
-  moment = history until (ap (λ (x : Ending × List ℕ). drop 13 (x .0 .numbered)) worked-out);
-  later = history since (ap (λ (x : Ending × List ℕ). x .0 .numbered) worked-out);
+  moment = history until (tells-all-bytes ks .0 refl) (ap (λ (x : Ending × List ℕ). drop 13 (x .0 .numbered)) worked-out);
+  later = history since (tells-all-bytes (ks′ ++ ks) .0 refl) (ap (λ (x : Ending × List ℕ). x .0 .numbered) worked-out);
   live = live;
   highest = highest;
   spared = spared;
@@ -166,4 +160,5 @@ bound-reached = refl
 -- In the second example what thread 0 calls after it let go would not count (`until-let-go` and `one-of-three` in protocol's Witness), though its events come about. While a first thread stands highest
 -- such calls are refused: see `Set 0 7` above.
 pub lets-go-and-calls : History the-calls empty ks₂ (s₂′ ++ s₂)
-lets-go-and-calls = history (accept (request refl) (accept (set-anew refl) (accept (release refl (nobody s₂ 0 0 refl)) (accept (request refl) (accept (create refl) start))))) (ap (λ (x : Ending × List ℕ). x .1) worked-out)
+unfolding in-bytes all-in-bytes
+lets-go-and-calls = history (accept (request refl) (accept (set-anew refl) (accept (release refl (nobody s₂ 0 0 refl)) (accept (request refl) (accept (create refl) start))))) (tells-all-bytes ks₂ .0 refl) (ap (λ (x : Ending × List ℕ). x .1) worked-out)

@@ -4,8 +4,9 @@ use mathlib.Core.Path.{_≡_}
 use mathlib.Core.Logic.{_≢_}
 use mathlib.Core.Option.{Option, none, some}
 use mathlib.Core.List.{List, [], _∷_}
-use Rattle.protocol.specs.Events.{Thread, Resource, Event, Create, Exit, Set, P, «V», State, prec, _≼_}
-use Rattle.protocol.specs.Schedule.{waits}
+use Rattle.protocol.specs.Sets.{_∈_, Highest}
+use Rattle.protocol.specs.Events.{Thread, Resource, Event, Create, Exit, Set, P, «V», State, _≼_}
+use Rattle.protocol.specs.Schedule.{waits, cprec}
 use Rattle.table.specs.declared.Table.{Table}
 use Rattle.refusals.specs.declared.Record.{Record}
 use Rattle.refusals.specs.Applies.{Ill-formed}
@@ -47,10 +48,10 @@ table-after c t (ask (resource cs) ∷ ks) = c .resource (table-after c t ks) cs
 abbrev pub number-of : Calls → Table → List Call → Record → ℕ
 number-of c t ks e = c .step (table-after c t ks) e .answer .number
 
--- Document 01's choice of the next holder, in the paper's terms: of those who wait, the one with the highest own precedence; nobody where nobody waits.
+-- Document 02's choice of the next holder (K5), in the paper's terms: of those who wait, the one with the highest current precedence, before the V; nobody where nobody waits.
 abbrev pub Chosen : State → Resource → Option Thread → Type 0
 Chosen s cs none = (th : Thread) → ¬ waits s th cs
-Chosen s cs (some th) = waits s th cs × ((u : Thread) → waits s u cs → prec u s ≼ prec th s)
+Chosen s cs (some th) = th ∈ Highest _≼_ (cprec s) (λ u. waits s u cs)
 
 -- the event of a record, as the paper writes it in the state s; a V names the next holder
 pub data Writes (s : State) (e : Record) : Event → Type 0 where

@@ -9,7 +9,7 @@ use Rattle.protocol.specs.Events.{Thread, Resource, Event, Create, Exit, Set, P
 use Rattle.protocol.specs.Schedule.{release}
 use Rattle.table.specs.declared.Table.{Table}
 use Rattle.table.specs.declared.Slot.{Slot}
-use Rattle.table.specs.Table.{own, queues, slot, dead-slot}
+use Rattle.table.specs.Table.{queues, slot, dead-slot}
 use Rattle.table.specs.Slots.{fresh-slot, set-slot, requested-slot, released-slot}
 use Rattle.table.specs.Compute.{is-live, is-higher, current}
 use Rattle.refusals.specs.declared.Record.{Record}
@@ -102,16 +102,16 @@ one-request-more t th = with-totals t (set (t .requests) th (requested-slot (slo
 abbrev pub one-release-more : Table → Thread → Table
 one-release-more t th = with-totals t (t .requests) (set (t .releases) th (released-slot (slot t th) .releases))
 
--- of th and the others, the one with the highest own precedence
-unfoldable pub highest-own : Table → Thread → List Thread → Thread
-highest-own t th [] = th
-highest-own t th (x ∷ xs) = let b = cond (is-higher (own t x) (own t th)) x th in highest-own t b xs
+-- of th and the others, the one with the highest current precedence
+unfoldable pub highest-current : Table → Thread → List Thread → Thread
+highest-current t th [] = th
+highest-current t th (x ∷ xs) = let b = cond (is-higher (current t x) (current t th)) x th in highest-current t b xs
 
--- who follows the head of a queue: of those who wait, the one with the highest own precedence
+-- Document 02, K5: who follows the head of a queue is, of those who wait, the one with the highest current precedence
 unfoldable pub heir : Table → List Thread → Option Thread
 heir t [] = none
 heir t (holder ∷ []) = none
-heir t (holder ∷ (x ∷ xs)) = some (highest-own t x xs)
+heir t (holder ∷ (x ∷ xs)) = some (highest-current t x xs)
 
 -- The table after an event, but for its stored current precedences. Who follows at a V stands in the event.
 unfoldable pub changed : Table → Event → Table

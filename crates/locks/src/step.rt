@@ -51,7 +51,7 @@ pub fn step(mut t: Table, e: Record) -> Done
             t.requests[i],
             t.releases[i],
         );
-        let next = follower(&t.queue, &t.length, &own, e);
+        let next = follower(&t.queue, &t.length, &current, e);
         let clock = t.clock;
         let o = carry_out(
             &mut t.queue,

@@ -1,6 +1,6 @@
 -- Chains over any one-hop relation: `u ∈ children t` says that u waits for something that t holds. Assumes nothing.
 use Prim.Native.Nat.{ℕ, zero, suc}
-use mathlib.Core.Path.{_≡_, refl, sym, ap, subst, _∙_}
+use mathlib.Core.Path.{_≡_, refl, sym, ap, subst}
 use mathlib.Core.Logic.{_⊎_, inl, inr, ⊎-elim}
 use native.Mathlib.Decide.{ℕ-discrete}
 use Rattle.protocol.specs.Sets.{SetOf, _∈_}
@@ -68,17 +68,21 @@ module _ (children : Hops) where
     pub past : {u p t : ℕ} → u ∈ children p → Depends children u t → Reach children p t
     past {u} {p} {t} k d = let w = first-hop d in subst (λ (x : ℕ). Reach children x t) (one-parent u (w .0) p (w .1) k) (w .2)
 
-    pub one-root : {u n : ℕ} → Climb children u n → (r q : ℕ) → Free children r → Free children q → Reach children u r → Reach children u q → r ≡ q
-    one-root (stop f) r q fr fq a b = sym (at f a) ∙ at f b
+    -- of two that u reaches, one reaches the other
+    pub in-line : {u x y : ℕ} → Reach children u x → Reach children u y → Reach children x y ⊎ Reach children y x
+    in-line {y = y} (inl e) r = inl (subst (λ (z : ℕ). Reach children z y) e r)
+    in-line {x = x} (inr d) (inl e) = inr (inr (subst (λ (z : ℕ). Depends children z x) e d))
+    in-line (inr (direct k)) (inr j) = inl (past k j)
+    in-line {x = x} {y = y} (inr (through {v = v} d k)) (inr j) = go (in-line (inr d) (inr j))
       where
-        at : {u x : ℕ} → Free children u → Reach children u x → u ≡ x
-        at f (inl e) = e
-        at f (inr d) = absurd (free-independent f d)
-    one-root (hop {t = u} {h = h} k c) r q fr fq a b = one-root c r q fr fq (on fr a) (on fq b)
-      where
-        on : {x : ℕ} → Free children x → Reach children u x → Reach children h x
-        on f (inl e) = absurd (f h (rw e at k))
-        on f (inr d) = past k d
+        go : Reach children v y ⊎ Reach children y v → Reach children x y ⊎ Reach children y x
+        go (inl (inl e)) = inr (inr (direct {t = x} (rw e at k)))
+        go (inl (inr i)) = inl (past k i)
+        go (inr r) = inr (inr (reach-hop r k))
+
+    -- so two of which neither depends on the other are one where u reaches both
+    pub one-reached : {u x y : ℕ} → ¬ Depends children x y → ¬ Depends children y x → Reach children u x → Reach children u y → x ≡ y
+    one-reached n m a b = ⊎-elim (⊎-elim (λ e. e) (λ d. absurd (n d))) (⊎-elim (λ e. sym e) (λ d. absurd (m d))) (in-line a b)
 
     pub climb-unique : {t n m : ℕ} → Climb children t n → Climb children t m → n ≡ m
     climb-unique (stop f) (stop g) = refl

@@ -6,9 +6,9 @@ use mathlib.Core.List.{[], _∷_}
 use mathlib.Core.Logic.{_≢_, _⊎_, inl, inr, ⊎-elim}
 use lib.ListN.{length}
 use borrow.Author.Tests.{eq-eqb, ne-eqb}
-use Rattle.protocol.specs.Sets.{_∈_, only, _∪_, image}
+use Rattle.protocol.specs.Sets.{SetOf, _∈_, only, _∪_, image, images, Max, Highest}
 use Rattle.protocol.specs.Events.{Thread, Priority, Resource, Create, Exit, Set, P, «V», State, threads, Precedence, prec, _≼_}
-use Rattle.protocol.specs.Schedule.{wq, holds, cprec, release, running}
+use Rattle.protocol.specs.Schedule.{wq, holds, waits, cprec, release, running}
 use Rattle.protocol.specs.Notions.{dependants}
 use Rattle.protocol.specs.Rules.{create, set as set-step, valid, after}
 use Rattle.protocol.specs.Children.{children}
@@ -21,8 +21,10 @@ use Rattle.protocol.proofs.Hops.{depends-map, depends-but, depends-adde
 use Rattle.protocol.proofs.Lists.{Holding, hd-one, heir-holds}
 use Rattle.protocol.proofs.Ways.{one-holder, waits-free}
 use Rattle.protocol.proofs.Kept.{joins, passes, releaser-holds, caller-runs, last-step, valid-before}
-use Rattle.protocol.proofs.Forest.{Joins, children-join, join-children, join-new, Passes, pass-queue, pass-children, children-pass, heir-free}
-use Rattle.protocol.proofs.Current.{Orderly, current-cprec, cprec-current, cprec-some, parents, dependant-live, dependee-live}
+use Rattle.protocol.proofs.Forest.{Joins, children-join, join-children, join-new, Passes, pass-queue, pass-waits, pass-children, children-pass, heir-free}
+use Rattle.protocol.proofs.Heir.{holds-next, heir-local}
+use Rattle.protocol.proofs.Current.{Orderly, current-cprec, cprec-current, cprec-some, now, now-images, images-now, now-law, local-cprec, parents, dependant-live, dependee-live}
+use Rattle.protocol.proofs.Waiters.{topmost-waiter}
 use Rattle.protocol.proofs.Finite.{valid-orderly}
 
 abbrev own : State → ℕ → Precedence
@@ -109,6 +111,49 @@ pass-cprec s th cs th′ v th″ n n′ = same-behind s′ s th″
 
     heir : Holding (release (wq s cs) (some th′)) th′
     heir = heir-holds (wq s cs) th′ (p .follows)
+
+-- V with a successor: whoever follows.
+module _ (s : State) (th : Thread) (cs : Resource) (th′ : Thread) (v : valid («V» th cs (some th′) ∷ s)) where
+  abbrev s′ : State
+  s′ = «V» th cs (some th′) ∷ s
+
+  p : Passes (wq s) cs (some th′)
+  p = passes s th cs (some th′) v
+
+  -- those who wait for what it holds then keep theirs
+  child-cprec : (u : Thread) → u ∈ children (wq s′) th′ → Same-cprec s′ s u
+  child-cprec u (r, w, h) = pass-cprec s th cs th′ v u (λ e. idle r (pass-waits p r th (rw e at w))) (λ e. heir-free p th′ (holds-next p) th′ (r, (rw e at w), h))
+    where
+      idle : (r : Resource) → ¬ waits s th r
+      idle = caller-runs s («V» th cs (some th′)) th refl (last-step v) .among .1
+
+  order : Orderly (wq s) (threads s)
+  order = valid-orderly s (valid-before v)
+
+  -- it has the highest current precedence of those who waited,
+  pub heir-cprec : (m : Precedence) → Max _≼_ (images (cprec s) (λ u. waits s u cs)) m → cprec s′ th′ m
+  heir-cprec m k = local-cprec (valid-orderly s′ v) (own s′) th′ m .1
+      (max-map _≼_ ≼-total to from (heir-local p _≼_ ≼-total (own s) (now order (own s)) (now-law order (own s) th′) m (max-map _≼_ ≼-total (images-now order (own s) waiters) (now-images order (own s) waiters) k)))
+    where
+      waiters : SetOf Thread
+      waiters u = waits s u cs
+
+      to : (a : Precedence) → a ∈ (only (prec th′ s) ∪ image (now order (own s)) (children (wq s′) th′)) → a ∈ (only (prec th′ s′) ∪ images (cprec s′) (children (wq s′) th′))
+      to a (inl e) = inl e
+      to a (inr w) = let n = now-images order (own s) (children (wq s′) th′) a w in inr (n .0, n .1, child-cprec (n .0) (n .1) a .1 (n .2))
+
+      from : (a : Precedence) → a ∈ (only (prec th′ s′) ∪ images (cprec s′) (children (wq s′) th′)) → a ∈ (only (prec th′ s) ∪ image (now order (own s)) (children (wq s′) th′))
+      from a (inl e) = inl e
+      from a (inr (u, i, c)) = inr (images-now order (own s) (children (wq s′) th′) a (u, i, child-cprec u i a .0 c))
+
+  -- so it keeps its own or rises,
+  pub heir-rises : (m m′ : Precedence) → cprec s th′ m → cprec s′ th′ m′ → m ≼ m′
+  heir-rises m m′ c d = let w = topmost-waiter order cs (own s) th′ (p .follows) in
+      rw (max-unique _≼_ ≼-total d (heir-cprec (w .1 .at) (w .1 .top))) (w .1 .top .bound m (th′, p .follows, c))
+
+  -- and keeps it if none of those who waited had a higher one.
+  pub heir-keeps : th′ ∈ Highest _≼_ (cprec s) (λ u. waits s u cs) → Same-cprec s′ s th′
+  heir-keeps h m = (λ c. rw (max-unique _≼_ ≼-total c (heir-cprec (h .at) (h .top))) (h .value), λ c. rw (max-unique _≼_ ≼-total c (h .value)) (heir-cprec (h .at) (h .top)))
 
 -- P of a free resource: all keep theirs.
 pub free-cprec : (s : State) (th : Thread) (cs : Resource) → valid (P th cs ∷ s) → wq s cs ≡ [] → (th′ : Thread) → Same-cprec (P th cs ∷ s) s th′

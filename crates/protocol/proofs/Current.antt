@@ -1,7 +1,7 @@
 -- Current precedences over any queues in good order: each thread has one, and the local law says which. Assumes nothing.
 use Prim.Native.Nat.{ℕ, suc, _≤_, _<_, max}
 use mathlib.Core.Path.{_≡_, refl}
-use mathlib.Core.Logic.{_≢_, _⊎_, inl, inr, ⊎-elim, _↔_, Dec·and, Dec·not}
+use mathlib.Core.Logic.{_≢_, _⊎_, inl, inr, ⊎-elim, _↔_}
 use native.Mathlib.Decide.{map-dec}
 use native.Mathlib.Omega.{arith}
 use Rattle.protocol.specs.Sets.{SetOf, _∈_, only, _∪_, image, images, set, Max}
@@ -13,7 +13,7 @@ use Rattle.protocol.proofs.Order.{≼-total}
 use Rattle.protocol.proofs.Highest.{max-unique, max-map, max-below}
 use Rattle.protocol.proofs.Chains.{Depends, direct, through, Reach, One-parent, first-hop, hop-reach, dec-reach}
 use Rattle.protocol.proofs.Graphs.{leads, depends-way}
-use Rattle.protocol.proofs.Lists.{dec-in, dec-hd, in-held}
+use Rattle.protocol.proofs.Lists.{dec-waits, in-held}
 use Rattle.protocol.proofs.Ways.{one-parent, climb-way, way-bounded}
 use Rattle.protocol.proofs.LocalLaw.{Current, local-current, current-local, local-is-current}
 use Rattle.protocol.proofs.Walk.{Afresh, walk-on, walk-stop}
@@ -54,7 +54,7 @@ module _ {wq : Queues} {live : SetOf ℕ} (o : Orderly wq live) where
   dependee-live (through {v = v} {t = t} d k) = parent-live v t k
 
   pub dec-waiting : (t : ℕ) → Dec ((r : ℕ) × waits wq t r)
-  dec-waiting t = dec-some (waits wq t) (λ r. Dec·and (dec-in t (wq r)) (Dec·not (dec-hd t (wq r)))) (o .limit) (λ r w. o .taken-low r t (w .0))
+  dec-waiting t = dec-some (waits wq t) (λ r. dec-waits t (wq r)) (o .limit) (λ r w. o .taken-low r t (w .0))
 
   -- whether t waits for somebody
   pub dec-parent : (t : ℕ) → Dec ((h : ℕ) × (t ∈ children wq h))
@@ -92,23 +92,32 @@ module _ {wq : Queues} {live : SetOf ℕ} (o : Orderly wq live) where
     pub cprec-is-now : (t : ℕ) (m : Precedence) → cprec wq own t m → m ≡ now t
     cprec-is-now t m k = max-unique _≼_ ≼-total k (cprec-some t .1)
 
+    -- what is said of some threads' current precedences is said of these
+    pub now-images : (M : SetOf ℕ) (a : Precedence) → a ∈ image now M → a ∈ images (cprec wq own) M
+    now-images M a (u, i, e) = (u, i, rw e (cprec-some u .1))
+
+    pub images-now : (M : SetOf ℕ) (a : Precedence) → a ∈ images (cprec wq own) M → a ∈ image now M
+    images-now M a (u, i, c) = (u, i, cprec-is-now u a c)
+
+    -- they satisfy the local law
+    now-current : (t : ℕ) → Current _≼_ (children wq) own t (now t)
+    now-current t = cprec-current wq own t (now t) (cprec-some t .1)
+
+    pub now-law : (t : ℕ) → local-law wq own now t (now t)
+    now-law t = current-local _≼_ ≼-total (children wq) own now t (λ u i. now-current u) (now t) (now-current t)
+
     -- Lemma 4
     pub local-cprec : (t : ℕ) (m : Precedence) → cprec wq own t m ↔ Max _≼_ (only (own t) ∪ images (cprec wq own) (children wq t)) m
     local-cprec t m = (
-      λ k. max-map _≼_ ≼-total to from (current-local _≼_ ≼-total (children wq) own now t now-current m (cprec-current wq own t m k)),
-      λ k. current-cprec wq own t m (local-current _≼_ ≼-total (children wq) own now t now-current m (max-map _≼_ ≼-total from to k)),
+      λ k. max-map _≼_ ≼-total to from (current-local _≼_ ≼-total (children wq) own now t (λ u i. now-current u) m (cprec-current wq own t m k)),
+      λ k. current-cprec wq own t m (local-current _≼_ ≼-total (children wq) own now t (λ u i. now-current u) m (max-map _≼_ ≼-total from to k)),
     )
       where
-        now-current : (u : ℕ) → u ∈ children wq t → Current _≼_ (children wq) own u (now u)
-        now-current u i = cprec-current wq own u (now u) (cprec-some u .1)
-
         to : (a : Precedence) → a ∈ (only (own t) ∪ image now (children wq t)) → a ∈ (only (own t) ∪ images (cprec wq own) (children wq t))
-        to a (inl e) = inl e
-        to a (inr (u, i, e)) = inr (u, i, rw e (cprec-some u .1))
+        to a = ⊎-elim inl (λ w. inr (now-images (children wq t) a w))
 
         from : (a : Precedence) → a ∈ (only (own t) ∪ images (cprec wq own) (children wq t)) → a ∈ (only (own t) ∪ image now (children wq t))
-        from a (inl e) = inl e
-        from a (inr (u, i, c)) = inr (u, i, cprec-is-now u a c)
+        from a = ⊎-elim inl (λ w. inr (images-now (children wq t) a w))
 
     -- and its converse: the local law at a thread and its dependants fixes the thread's value
     pub law-behind : (c : ℕ → Precedence) (x : ℕ) → ((t : ℕ) → Reach (children wq) t x → local-law wq own c t (c t)) → cprec wq own x (c x)

@@ -11,10 +11,13 @@ pub mod Graphs
 pub mod Ways
 pub mod Hops
 pub mod Forest
+pub mod Heir
 pub mod Kept
 pub mod Finite
 pub mod Current
+pub mod Topmost
 pub mod Runner
+pub mod Waiters
 pub mod Theorems
 pub mod Edges
 pub mod Changes

@@ -4,7 +4,7 @@ use mathlib.Core.Path.{_≡_, refl, sym, ap, _∙_}
 use mathlib.Core.Bool.{Bool, true, false, cond}
 use mathlib.Core.Option.{Option, none, some}
 use mathlib.Core.List.{List, [], _∷_, _++_}
-use mathlib.Core.Logic.{_≢_, _⊎_, inl, inr, ⊎-elim, _↔_}
+use mathlib.Core.Logic.{_≢_, _⊎_, inl, inr, ⊎-elim, _↔_, Dec·and, Dec·not}
 use native.Mathlib.Decide.{ℕ-discrete, map-dec}
 use lib.Dec.{eqb}
 use lib.ListN.{length}
@@ -35,6 +35,9 @@ dec-in t (x ∷ xs) = dec-either (ℕ-discrete t x) (dec-in t xs)
 pub dec-hd : (t : ℕ) (q : List ℕ) → Dec (t ∈ hd q)
 dec-hd t [] = no (λ b. b)
 dec-hd t (x ∷ xs) = ℕ-discrete t x
+
+pub dec-waits : (t : ℕ) (q : List ℕ) → Dec (Waiting q t)
+dec-waits t q = Dec·and (dec-in t q) (Dec·not (dec-hd t q))
 
 -- whether one of the list satisfies Q
 pub dec-among : (Q : ℕ → Type 0) → ((x : ℕ) → Dec (Q x)) → (l : List ℕ) → Dec ((x : ℕ) × (x ∈ set l) × Q x)

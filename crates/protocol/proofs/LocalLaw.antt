@@ -1,7 +1,7 @@
 -- Lemma 4 both ways, over any one-hop relation and any totally ordered values. Assumes nothing.
 use Prim.Native.Nat.{ℕ, zero, suc, _+_, _≤_, _<_}
-use mathlib.Core.Path.{_≡_, refl, _∙_}
-use mathlib.Core.Logic.{inl, inr, ⊎-elim}
+use mathlib.Core.Path.{_≡_, refl, ap, _∙_}
+use mathlib.Core.Logic.{_⊎_, inl, inr, ⊎-elim}
 use native.Mathlib.Omega.{arith}
 use Rattle.protocol.specs.Sets.{SetOf, _∈_, only, _∪_, image, Max}
 use Rattle.protocol.proofs.Order.{Total}
@@ -52,6 +52,22 @@ module _ {A : Type 0} (at-most : A → A → Type 0) (total : Total at-most) (ch
         from : x ∈ image own (λ u. Depends children u t) → x ∈ (only (own t) ∪ image c (children t))
         from (u, d, e) = let w = under u d in
             inr (w .0, w .1, total .antisymmetric x (c (w .0)) (rw e (w .2)) (over (c (w .0)) (inr (w .0, w .1, refl))))
+
+  -- One of the group W takes over: its children are then those that it had and the others of W. So the law gives it the highest value in W.
+  module _ (after : Hops) (c : ℕ → A) (b : ℕ) (W : SetOf ℕ) (one : b ∈ W) (kept : (u : ℕ) → u ∈ children b → u ∈ after b)
+      (gained : (u : ℕ) → u ∈ W → (u ≡ b) ⊎ (u ∈ after b)) (no-more : (u : ℕ) → u ∈ after b → (u ∈ children b) ⊎ (u ∈ W)) where
+    pub local-heir : Local at-most children own c b (c b) → (m : A) → Max at-most (image c W) m → Local at-most after own c b m
+    local-heir law m k = record { among = from (k .among); bound = over }
+      where
+        high : at-most (c b) m
+        high = k .bound (c b) (b, one, refl)
+
+        from : m ∈ image c W → m ∈ (only (own b) ∪ image c (after b))
+        from (u, i, e) = ⊎-elim (λ q. ⊎-elim (λ f. inl (e ∙ ap c q ∙ f)) (λ w. inr (w .0, kept (w .0) (w .1), e ∙ ap c q ∙ w .2)) (law .among)) (λ j. inr (u, j, e)) (gained u i)
+
+        over : (a : A) → a ∈ (only (own b) ∪ image c (after b)) → at-most a m
+        over a (inl e) = total .transitive a (c b) m (law .bound a (inl e)) high
+        over a (inr (u, j, e)) = ⊎-elim (λ i. total .transitive a (c b) m (law .bound a (inr (u, i, e))) high) (λ i. k .bound a (u, i, e)) (no-more u j)
 
   -- Lemma 4's converse: where no chain closes, whatever satisfies the local law in a set that has all the children of its members is the
   -- current value there.

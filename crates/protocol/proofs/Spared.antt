@@ -19,7 +19,8 @@ use Rattle.protocol.proofs.Kept.{Kept, prec-differs, step-joins, step-p
 use Rattle.protocol.proofs.Forest.{join-in, pass-in}
 use Rattle.protocol.proofs.Finite.{orderly, in-attached, attached-in}
 use Rattle.protocol.proofs.Current.{cprec-current, cprec-some}
-use Rattle.protocol.proofs.Runner.{source, leader}
+use Rattle.protocol.proofs.Topmost.{source}
+use Rattle.protocol.proofs.Runner.{leader}
 use Rattle.protocol.proofs.Changes.{else-prec, stamped-prec}
 
 -- th is live in m, and its own precedence is p, the highest of all live threads

@@ -2,10 +2,11 @@
 use Prim.Native.Nat.{ℕ, _≤_, _<_}
 use mathlib.Core.Path.{_≡_}
 use mathlib.Core.Logic.{_≢_, _⊎_, _↔_}
-use Rattle.protocol.specs.Sets.{_∈_, only, _∪_, images, set, distinct, Max}
+use Rattle.protocol.specs.Sets.{_∈_, only, _∪_, images, set, distinct, Max, Highest}
 use Rattle.protocol.specs.Events.{Thread, Resource, State, threads, Precedence, prec, _≼_}
 use Rattle.protocol.specs.Graph.{Node, T, C, _⁺, edge, then}
 use Rattle.protocol.specs.Schedule.{wq, holds, waits, RAG, cprec, ready, running}
+use Rattle.protocol.specs.Notions.{dependants}
 use Rattle.protocol.specs.Rules.{valid}
 use Rattle.protocol.specs.Ways.{Way}
 use Rattle.protocol.specs.Children.{children, local-law}
@@ -18,6 +19,7 @@ use Rattle.protocol.proofs.Kept.{Kept, valid-kept, prec-differs}
 use Rattle.protocol.proofs.Finite.{size, live-below, taken-below, valid-orderly}
 use Rattle.protocol.proofs.Current.{Orderly, parents, cprec-some, local-cprec, law-cprec, law-walk}
 use Rattle.protocol.proofs.Runner.{running-unique, running-some}
+use Rattle.protocol.proofs.Waiters.{waiters-apart as apart, none-in-common as in-common, waiters-differ as cprecs-apart, topmost-waiter, topmost-waiter-one}
 
 -- running s ⊆ ready s ⊆ threads s; the threads are finitely many, and so are the taken resources, so the graph is finite
 
@@ -87,6 +89,25 @@ module _ (s : State) (v : valid s) where
   -- and one does whenever any is live
   pub some-runs : (th : Thread) → th ∈ threads s → (th′ : Thread) × (th′ ∈ running s)
   some-runs = running-some order (λ u. prec u s)
+
+  -- two threads that wait for one resource have no dependant in common, and neither is the other's
+  pub waiters-apart : (cs : Resource) (th₁ th₂ : Thread) → waits s th₁ cs → waits s th₂ cs → ¬ (th₁ ∈ dependants s th₂)
+  waiters-apart cs th₁ th₂ w₁ w₂ d = apart order cs th₁ th₂ w₁ w₂ (leads (wq s) d)
+
+  pub none-in-common : (cs : Resource) (th₁ th₂ th : Thread) → waits s th₁ cs → waits s th₂ cs → th ∈ dependants s th₁ → th ∈ dependants s th₂ → th₁ ≡ th₂
+  none-in-common cs th₁ th₂ th w₁ w₂ d₁ d₂ = in-common order cs th₁ th₂ th w₁ w₂ (leads (wq s) d₁) (leads (wq s) d₂)
+
+  -- so their current precedences differ
+  pub waiters-differ : (cs : Resource) (th₁ th₂ : Thread) → waits s th₁ cs → waits s th₂ cs → (m : Precedence) → cprec s th₁ m → cprec s th₂ m → th₁ ≡ th₂
+  waiters-differ cs = cprecs-apart order cs (λ u. prec u s) precs-differ
+
+  -- at most one of those who wait for a resource has the highest current precedence of them all
+  pub one-heir : (cs : Resource) (th₁ th₂ : Thread) → th₁ ∈ Highest _≼_ (cprec s) (λ th. waits s th cs) → th₂ ∈ Highest _≼_ (cprec s) (λ th. waits s th cs) → th₁ ≡ th₂
+  one-heir cs = topmost-waiter-one order cs (λ u. prec u s) precs-differ
+
+  -- and one does whenever any waits
+  pub some-heir : (cs : Resource) (th : Thread) → waits s th cs → (th′ : Thread) × (th′ ∈ Highest _≼_ (cprec s) (λ th. waits s th cs))
+  some-heir cs = topmost-waiter order cs (λ u. prec u s)
 
   -- every thread has a current precedence, and one only
   pub has-cprec : (th : Thread) → (m : Precedence) × cprec s th m

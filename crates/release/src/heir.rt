@@ -14,25 +14,25 @@ use table::Table;
 use table::numbers::value;
 use table::queues::wide;
 
-// The place of whoever follows the head of r among its n entries: that of the waiter of highest own precedence; 0 where nobody waits.
+// The place of whoever follows the head of r among its n entries: that of the waiter of highest current precedence; 0 where nobody waits.
 fn heir_place<'a>(
     queue: &'a [u8; Table::PLACES],
-    own: &'a [u32; Table::THREADS],
+    current: &'a [u32; Table::THREADS],
     r: usize,
     n: usize,
 ) -> usize
     requires { ⌜ (r < 16) × (n ≤ 32) ⌝ }
-    ensures { λ p. ⌜ Heir-place (now (queue .entry)) (now (own .entry)) r n p ⌝ }
+    ensures { λ p. ⌜ Heir-place (now (queue .entry)) (now (current .entry)) r n p ⌝ }
 {
     if n < 2 {
         return 0;
     }
     let start = r * Table::THREADS;
     let mut best = 1;
-    let mut high = value(own, queue[start + 1]);
+    let mut high = value(current, queue[start + 1]);
     let mut i = 2;
     while i < n {
-        let v = value(own, queue[start + i]);
+        let v = value(current, queue[start + i]);
         if high < v {
             high = v;
             best = i;
@@ -42,20 +42,20 @@ fn heir_place<'a>(
     best
 }
 
-// Who follows at e, if that is a V: the place of the heir in the queue of the resource that it names.
+// Who follows at e, if that is a V: the place of the heir in the queue of the resource that it names. The numbers are those before the V.
 pub fn follower<'a>(
     queue: &'a [u8; Table::PLACES],
     lengths: &'a [u8; Table::RESOURCES],
-    own: &'a [u32; Table::THREADS],
+    current: &'a [u32; Table::THREADS],
     e: Record,
 ) -> usize
-    requires { ⌜ ((t : Table) × (waits holders currents : List ℕ) × Known t waits holders (now own) currents × (lowest (refusals t e) ≡ 0) × (now lengths ≡ t .length)) ⌝ }
-    ensures { λ p. ⌜ ((t : Table) (waits holders currents : List ℕ) → Known t waits holders (now (own .entry)) currents → lowest (refusals t e) ≡ 0 → now (queue .entry) ≡ t .queue → now (lengths .entry) ≡ t .length → e .kind ≡ 5 →
+    requires { ⌜ ((t : Table) × (waits holders owns : List ℕ) × Known t waits holders owns (now current) × (lowest (refusals t e) ≡ 0) × (now lengths ≡ t .length)) ⌝ }
+    ensures { λ p. ⌜ ((t : Table) (waits holders owns : List ℕ) → Known t waits holders owns (now (current .entry)) → lowest (refusals t e) ≡ 0 → now (queue .entry) ≡ t .queue → now (lengths .entry) ≡ t .length → e .kind ≡ 5 →
         (p < at (now (lengths .entry)) (e .argument)) × (next-at (now (queue .entry)) (e .argument) p ≡ heir t (queues t (e .argument)))) ⌝ }
 {
     if e.kind != Record::V {
         return 0;
     }
     let r = wide(e.argument);
-    heir_place(queue, own, r, wide(lengths[r]))
+    heir_place(queue, current, r, wide(lengths[r]))
 }

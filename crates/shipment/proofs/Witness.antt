@@ -15,7 +15,7 @@ use Rattle.table.specs.Table.{empty, stored}
 use Rattle.table.specs.Compute.{all-below, each, member, first-or-32, differ, find-below, is-live, holder, is-waiting, waits-for, blocker, depends, is-higher, highest-behind, current, is-ready, leader, runner, ends, same, dead-zero, spare-zero, time-right, queue-right, waits-once, held-below, unreleased, balance-right, totals-low, current-right, is-sound}
 use Rattle.refusals.specs.declared.Record.{Record}
 use Rattle.refusals.specs.Refusals.{malformed, leads, holds-any, unsound, by-record, by-thread, by-queues, refusals, lowest}
-use Rattle.events.specs.Events.{tabulate, settled, with-slot, with-queue, changed, highest-own, heir, named, event-of}
+use Rattle.events.specs.Events.{tabulate, settled, with-slot, with-queue, changed, highest-current, heir, named, event-of}
 use Rattle.events.specs.Count.{walk, request-count, release-count, count}
 use Rattle.queries.specs.Queries.{running-refusals, running-answer}
 use Rattle.locks.specs.Answers.{accepted as done, refused as turned-away, carried-out, answerOf}
@@ -58,7 +58,7 @@ unfoldable ended : Table × List ℕ → List ℕ × ℕ
 ended r = (r .1, running-answer (r .0) .running)
 
 worked-out : ended (play (calls-of (acts′ ++ acts))) ≡ (replicate 21 0, 1)
-unfolding all-below each member first-or-32 differ find-below is-live holder is-waiting waits-for blocker depends is-higher highest-behind current is-ready leader runner ends same dead-zero spare-zero time-right queue-right waits-once held-below unreleased balance-right totals-low current-right is-sound malformed leads holds-any unsound by-record by-thread by-queues refusals lowest tabulate settled with-slot with-queue changed highest-own heir named event-of walk request-count release-count count done turned-away carried-out answerOf running-refusals running-answer noted onward play ended
+unfolding all-below each member first-or-32 differ find-below is-live holder is-waiting waits-for blocker depends is-higher highest-behind current is-ready leader runner ends same dead-zero spare-zero time-right queue-right waits-once held-below unreleased balance-right totals-low current-right is-sound malformed leads holds-any unsound by-record by-thread by-queues refusals lowest tabulate settled with-slot with-queue changed highest-current heir named event-of walk request-count release-count count done turned-away carried-out answerOf running-refusals running-answer noted onward play ended
 worked-out = refl
 
 -- So these are the accepted events.

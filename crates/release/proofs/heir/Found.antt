@@ -27,8 +27,8 @@ module _ (t : Table) (e : Record) {waits holders owns currents : List ℕ} (k : 
   some : 1 ≤ at (t .length) (e .argument)
   some = holds-first t (k .shape) (k .sound .bare .queues-right .lengths) (e .thread) (e .argument) .0 (release-holds t e (k .shape) z kind) .0
 
-  pub found : {queue lengths : List ℕ} {r n p : ℕ} → queue ≡ t .queue → lengths ≡ t .length → r ≡ e .argument → n ≡ at lengths r → Heir-place queue owns r n p →
+  pub found : {queue lengths : List ℕ} {r n p : ℕ} → queue ≡ t .queue → lengths ≡ t .length → r ≡ e .argument → n ≡ at lengths r → Heir-place queue currents r n p →
       (p < at lengths (e .argument)) × (next-at queue (e .argument) p ≡ heir t (queues t (e .argument)))
   found {p = p} q l index size place =
-      let here : Heir-place (t .queue) owns (e .argument) (at (t .length) (e .argument)) p = rw (size, index, q, l) at place in
-      rw (q, l) (place-within some here, place-heir t (known-good t k) owns (k .owns-right) (e .argument) p named-low here)
+      let here : Heir-place (t .queue) currents (e .argument) (at (t .length) (e .argument)) p = rw (size, index, q, l) at place in
+      rw (q, l) (place-within some here, place-heir t (known-good t k) (k .tracks) (e .argument) p named-low here)

@@ -41,6 +41,10 @@ module _ {t : Table} (b : Bare t) where
       go (yes l) = omega (arith, time-low th l)
       go (no n) = omega (arith, ap (λ (s : Slot). s .time) (b .dead-slots th n))
 
+  -- own precedences of live threads differ
+  pub owns-differ : (x y : ℕ) → x ∈ live t → y ∈ live t → own t x ≡ own t y → x ≡ y
+  owns-differ x y l m e = b .times .different x y l m (ap (λ (p : Precedence). p .1) e)
+
 module _ (t : Table) (shape : Shape t) where
   -- queues that are right, and from whose threads the way ends, are in good order
   pub rows-orderly : Queues-right t → One-queue t → ((th : ℕ) → th < 32 → Ends (children (queues t)) th) → Orderly (queues t) (live t)
@@ -80,7 +84,7 @@ module _ (t : Table) (shape : Shape t) where
 
   -- in a sound table the running thread is unique
   pub sound-one-runs : Sound t → (th₁ th₂ : Thread) → th₁ ∈ running t → th₂ ∈ running t → th₁ ≡ th₂
-  sound-one-runs s = running-unique (sound-orderly s) (own t) (λ x y l m e. s .bare .times .different x y l m (ap (λ (p : Precedence). p .1) e))
+  sound-one-runs s = running-unique (sound-orderly s) (own t) (owns-differ (s .bare))
 
   -- and there is one whenever anyone is live
   pub sound-some-runs : Sound t → (th : Thread) → th ∈ live t → (th′ : Thread) × (th′ ∈ running t)

@@ -1,24 +1,26 @@
 -- What document 01's definitions compute of a table that keeps the rules, read off its fields. Assumes nothing.
 use Prim.Native.Nat.{ℕ, _*_, _<_}
-use mathlib.Core.Path.{_≡_, refl, sym, ap, _∙_}
+use mathlib.Core.Path.{_≡_, refl, sym, _∙_}
 use mathlib.Core.Bool.{Bool, true, false, cond}
 use mathlib.Core.Logic.{_≢_, _⊎_, inl, inr}
 use native.Mathlib.Decide.{ℕ-discrete}
 use native.Mathlib.Omega.{arith}
 use lib.ListN.{length}
-use Rattle.protocol.specs.Sets.{_∈_, Names}
-use Rattle.protocol.specs.Events.{Thread, Resource, Precedence, _≼_}
+use Rattle.protocol.specs.Sets.{_∈_, Highest, Names}
+use Rattle.protocol.specs.Events.{Thread, Resource, _≼_}
 use Rattle.protocol.proofs.Order.{≼-total}
 use Rattle.protocol.proofs.Highest.{max-unique}
 use Rattle.protocol.proofs.Runner.{running-unique}
+use Rattle.protocol.proofs.Waiters.{topmost-waiter-one}
 use Rattle.table.specs.declared.Table.{Table}
-use Rattle.table.specs.Table.{at, live, own, stored, queues, holds, waits, running}
+use Rattle.table.specs.Table.{at, live, own, stored, queues, holds, waits, cprec, running}
 use Rattle.table.specs.Sound.{Sound}
 use Rattle.table.specs.Compute.{first-or-32, is-live, holder, waits-for, current, runner}
 use Rattle.table.specs.code.Places.{entry}
 use Rattle.table.specs.code.Shape.{Shape}
 use Rattle.table.proofs.arrays.Places.{part-length}
 use Rattle.table.proofs.sound.Queues.{live-low, holds-first}
+use Rattle.table.proofs.sound.Order.{owns-differ}
 use Rattle.table.proofs.tests.Computed.{tells-live, holds-holder, waits-for-is, waits-for-cases, runner-is}
 use Rattle.table.proofs.values.Values.{Good, bare-good, resource-low, current-defined}
 
@@ -72,10 +74,14 @@ module _ (t : Table) (g : Good t) where
 
   -- and no two do
   pub one-runner : (r q : ℕ) → Names 32 (running t) r → Names 32 (running t) q → r ≡ q
-  one-runner r q (inl a) (inl b) = running-unique (g .order) (own t) (λ x y l m e. g .bare .times .different x y l m (ap (λ (p : Precedence). p .1) e)) r q (a .1) (b .1)
+  one-runner r q (inl a) (inl b) = running-unique (g .order) (own t) (owns-differ (g .bare)) r q (a .1) (b .1)
   one-runner r q (inl a) (inr b) = absurd (b .1 r (a .1))
   one-runner r q (inr a) (inl b) = absurd (a .1 q (b .1))
   one-runner r q (inr a) (inr b) = a .0 ∙ sym (b .0)
+
+  -- and no two of those who wait for a resource have the highest current precedence
+  pub one-heir : (cs : Resource) (x y : Thread) → x ∈ Highest _≼_ (cprec t) (λ u. waits t u cs) → y ∈ Highest _≼_ (cprec t) (λ u. waits t u cs) → x ≡ y
+  one-heir cs = topmost-waiter-one (g .order) cs (own t) (owns-differ (g .bare))
 
 -- a live thread's stored current precedence is the defined one
 pub current-stored : (t : Table) (shape : Shape t) → Sound t → (th : Thread) → th ∈ live t → current t th ≡ stored t th

@@ -6,7 +6,7 @@ use mathlib.Core.List.{List, [], _∷_}
 use mathlib.Core.Logic.{_≢_, _⊎_, inl, inr, ⊎-elim}
 use native.Mathlib.Omega.{arith}
 use lib.Dec.{eqb, ltb}
-use Rattle.protocol.specs.Sets.{SetOf, _∈_, only, _∪_, image, set, hd, Max, Names}
+use Rattle.protocol.specs.Sets.{SetOf, _∈_, only, _∪_, image, set, hd, Max, Highest, Names}
 use Rattle.protocol.specs.Events.{Precedence, higher, _≼_}
 use Rattle.protocol.specs.Children.{children}
 use Rattle.protocol.proofs.Decide.{below-suc}
@@ -170,6 +170,15 @@ module _ (t : Table) (o : Orderly (queues t) (live t)) (low : (x r : ℕ) → x 
       (λ a. ⊎-elim inl (λ w. inr (w .0, (live-low (w .0) (dependant-live o (w .1)), w .1), w .2)))
       (behind-max x (own t x) 32))
 
+  -- whoever of some threads has the highest value has the highest current precedence of them
+  pub highest-is : (M : SetOf ℕ) (b : ℕ) → b ∈ M → ((u : ℕ) → u ∈ M → current t u ≼ current t b) → b ∈ Highest _≼_ (cprec t) M
+  highest-is M b i over = record {
+    among = i;
+    at = current t b;
+    value = current-is b;
+    top = record { among = (b, i, current-is b); bound = λ a w. subst (λ (p : Precedence). p ≼ current t b) (max-unique _≼_ ≼-total (current-is (w .0)) (w .2)) (over (w .0) (w .1)) };
+  }
+
   -- the running thread
 
   tells-ready : (x : ℕ) → Tells (is-ready t x) (x ∈ ready t)
@@ -214,13 +223,5 @@ module _ (t : Table) (o : Orderly (queues t) (live t)) (low : (x r : ℕ) → x 
   unfolding runner Led
   runner-is = ⊎-elim
       (λ k. inr (k .0, λ th r. k .1 th (live-low th (r .among .0)) (r .among)))
-      (λ k. inl (
-        k .0,
-        record {
-          among = k .1;
-          at = current t (runner t);
-          value = current-is (runner t);
-          top = record { among = (runner t, k .1, current-is (runner t)); bound = λ a w. subst (λ (p : Precedence). p ≼ current t (runner t)) (max-unique _≼_ ≼-total (current-is (w .0)) (w .2)) (k .2 (w .0) (live-low (w .0) (w .1 .0)) (w .1)) };
-        },
-      ))
+      (λ k. inl (k .0, highest-is (ready t) (runner t) (k .1) (λ u i. k .2 u (live-low u (i .0)) i)))
       (led 32 (omega arith))

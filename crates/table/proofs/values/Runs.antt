@@ -1,24 +1,23 @@
 -- In a table that keeps the rules the highest thread by numbers that waits for nothing is the running thread. Assumes nothing.
 use Prim.Native.Nat.{ℕ, _≤_, _<_}
-use mathlib.Core.Path.{_≡_, subst, _∙_}
+use mathlib.Core.Path.{_≡_, _∙_}
 use mathlib.Core.Bool.{true}
 use mathlib.Core.Logic.{inl, inr, ⊎-elim}
 use mathlib.Core.List.{List}
 use native.Mathlib.Decide.{ℕ-discrete}
 use native.Mathlib.Omega.{arith}
 use borrow.Author.Tests.{eq-eqb, eqb-true}
-use Rattle.protocol.specs.Sets.{_∈_, images}
-use Rattle.protocol.specs.Events.{Precedence, _≼_}
+use Rattle.protocol.specs.Sets.{SetOf, _∈_, Highest}
+use Rattle.protocol.specs.Events.{_≼_}
 use Rattle.protocol.specs.Rank.{rank}
-use Rattle.protocol.proofs.Order.{≼-total, ≼-rank}
-use Rattle.protocol.proofs.Highest.{max-unique}
+use Rattle.protocol.proofs.Order.{≼-rank}
 use Rattle.table.specs.declared.Table.{Table}
 use Rattle.table.specs.Table.{at, live, cprec, ready, running}
 use Rattle.table.specs.Compute.{current, waits-for, runner}
 use Rattle.table.specs.code.Ready.{is-free, highest-ready}
 use Rattle.table.specs.code.Tracks.{Tracks}
 use Rattle.table.proofs.sound.Read.{if-live, if-dead, waited, runs, one-runner}
-use Rattle.table.proofs.values.Values.{Good, thread-low, current-defined, current-low}
+use Rattle.table.proofs.values.Values.{Good, thread-low, highest-defined, current-fits, current-low}
 use Rattle.table.proofs.values.Lead.{Leads, found-leads}
 
 module _ (t : Table) (g : Good t) {waits holders currents : List ℕ} (k : Tracks t waits holders currents) where
@@ -43,23 +42,14 @@ module _ (t : Table) (g : Good t) {waits holders currents : List ℕ} (k : Track
       alive (yes l) = l
       alive (no n) = absurd (omega (arith, dead-number th h n))
 
-  -- the leader by numbers runs
-  leads-runs : (b : ℕ) → Leads waits currents 32 b → b ∈ running t
-  leads-runs b m = record {
-    among = is;
-    at = current t b;
-    value = current-defined t g b;
-    top = record { among = (b, is, current-defined t g b); bound = over };
-  }
-    where
-      is : b ∈ ready t
-      is = free-ready b (m .below) (m .free) (m .some)
+  -- of some live threads, the one of the highest number has the highest current precedence
+  pub highest-number : (M : SetOf ℕ) → ((u : ℕ) → u ∈ M → u ∈ live t) → (b : ℕ) → b ∈ M → ((u : ℕ) → u ∈ M → at currents u ≤ at currents b) → b ∈ Highest _≼_ (cprec t) M
+  highest-number M alive b i over = highest-defined t g M b i (λ u j.
+      ≼-rank 65535 (current t u) (current t b) (current-fits t g u) (current-fits t g b) .1 (omega (arith, over u j, live-number u (alive u j), live-number b (alive b i))))
 
-      over : (a : Precedence) → a ∈ images (cprec t) (ready t) → a ≼ current t b
-      over a (u, i, c) =
-          subst (λ (p : Precedence). p ≼ current t b) (max-unique _≼_ ≼-total (current-defined t g u) c)
-          (≼-rank 65535 (current t u) (current t b) (omega (arith, current-low t g u (i .0) .1)) (omega (arith, current-low t g b (is .0) .1)) .1
-          (omega (arith, m .highest u (thread-low t g u (i .0)) (ready-free u i), live-number u (i .0), live-number b (is .0))))
+  -- so the leader by numbers runs
+  leads-runs : (b : ℕ) → Leads waits currents 32 b → b ∈ running t
+  leads-runs b m = highest-number (ready t) (λ u i. i .0) b (free-ready b (m .below) (m .free) (m .some)) (λ u i. m .highest u (thread-low t g u (i .0)) (ready-free u i))
 
   pub tracked-runner : highest-ready waits currents 32 ≡ runner t
   tracked-runner = one-runner t g (highest-ready waits currents 32) (runner t) (⊎-elim

@@ -2,7 +2,7 @@
 use Prim.Native.Nat.{ℕ, _≤_, _<_}
 use mathlib.Core.Path.{_≡_, refl, ap, _∙_}
 use mathlib.Core.Logic.{_≢_, _⊎_, inl, inr, ⊎-elim, _↔_}
-use Rattle.protocol.specs.Sets.{SetOf, _∈_, only, _∪_, image, images, set, Max}
+use Rattle.protocol.specs.Sets.{SetOf, _∈_, only, _∪_, image, images, set, Max, Highest}
 use Rattle.protocol.specs.Events.{Precedence, _≼_}
 use Rattle.protocol.specs.Rank.{rank}
 use Rattle.protocol.specs.Children.{children}
@@ -12,7 +12,7 @@ use Rattle.protocol.proofs.Chains.{Hops, Depends, Reach, Free, no-circle, hop-r
 use Rattle.protocol.proofs.LocalLaw.{Current, Local, local-is-current}
 use Rattle.protocol.proofs.Walk.{Afresh, walk-on, walk-stop}
 use Rattle.protocol.proofs.Current.{Orderly, parents, parent-live, dependant-live, short, cprec-current, local-cprec}
-use Rattle.protocol.proofs.Runner.{source}
+use Rattle.protocol.proofs.Topmost.{source}
 use Rattle.table.specs.declared.Table.{Table}
 use Rattle.table.specs.Table.{at, live, own, queues, cprec}
 use Rattle.table.specs.Sound.{Bare}
@@ -21,7 +21,7 @@ use Rattle.table.specs.Compute.{current}
 use Rattle.table.proofs.sound.Queues.{live-low, taken-low, in-queue}
 use Rattle.table.proofs.values.Numbers.{≤-total, max-rank}
 use Rattle.table.proofs.sound.Order.{time-low, time-fits, bare-orderly}
-use Rattle.table.proofs.tests.Computed.{current-is}
+use Rattle.table.proofs.tests.Computed.{current-is, highest-is}
 
 -- a table whose arrays have their sizes and that keeps all rules but those on its stored current precedences; so its queues are in good order
 pub record Good (t : Table) : Type 0 where
@@ -41,6 +41,9 @@ module _ (t : Table) (g : Good t) where
 
   pub current-defined : (x : ℕ) → cprec t x (current t x)
   current-defined = current-is t (g .order) resource-low thread-low
+
+  pub highest-defined : (M : SetOf ℕ) (b : ℕ) → b ∈ M → ((u : ℕ) → u ∈ M → current t u ≼ current t b) → b ∈ Highest _≼_ (cprec t) M
+  highest-defined = highest-is t (g .order) resource-low thread-low
 
   -- who waits for what th holds
   abbrev pub hops : Hops

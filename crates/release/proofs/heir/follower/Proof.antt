@@ -13,7 +13,7 @@ short : (h : tie.Start) → h .args .e .kind ≡ 5 → (r : ℕ) → r ≡ h .ar
 short h kind r index = rw (index, h .pre .6) (named-short (h .pre .0) (h .args .e) (h .pre .4) (h .pre .5) kind)
 
 returns : tie.Need-returns
-returns c t waits holders currents k z q l kind = absurd (c .if1 .taken kind)
+returns c t waits holders owns k z q l kind = absurd (c .if1 .taken kind)
 
 wide-requires : tie.Need-wide-requires
 wide-requires c κs = search needs
@@ -36,7 +36,7 @@ heir-place-requires c κs =
     )
 
 returns-2 : tie.Need-returns-2
-returns-2 c t waits holders currents k z q l kind =
+returns-2 c t waits holders owns k z q l kind =
     let w = c .before .before .before in
     found t (w .before .before .before .args .e) k z kind q l (w .wide .ensures .0) (c .before .wide2 .ensures .0) (c .heir-place .ensures)
 

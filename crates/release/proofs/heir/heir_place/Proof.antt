@@ -14,32 +14,32 @@ use Rattle.release.proofs.heir.heir_place.Statement.{statement}
 use Rattle.release.proofs.heir.heir_place.Tie as tie
 
 -- one entry more: the place stays where its number is not above, and otherwise it is the entry's
-module _ (queue owns : List ℕ) (r i p : ℕ) (h : Highest-place queue owns r i p) where
+module _ (queue numbers : List ℕ) (r i p : ℕ) (h : Highest-place queue numbers r i p) where
   abbrev number : ℕ → ℕ
-  number j = at owns (entry queue r j)
+  number j = at numbers (entry queue r j)
 
   highest-next : (q : ℕ) → number p ≤ number q → number i ≤ number q → (j : ℕ) → 1 ≤ j → j < i + 1 → number j ≤ number q
   highest-next q a b j k l = go (ℕ-discrete j i)
     where
-      go : Dec (j ≡ i) → at owns (entry queue r j) ≤ at owns (entry queue r q)
+      go : Dec (j ≡ i) → at numbers (entry queue r j) ≤ at numbers (entry queue r q)
       go (yes e) = rw e b
       go (no n) = omega (arith, h .highest j k (omega arith))
 
-  stays : number i ≤ number p → Highest-place queue owns r (i + 1) p
+  stays : number i ≤ number p → Highest-place queue numbers r (i + 1) p
   stays a = record { behind = h .behind; within = omega (arith, h .within); highest = highest-next p (omega arith) a }
 
-  moves : number p < number i → Highest-place queue owns r (i + 1) i
+  moves : number p < number i → Highest-place queue numbers r (i + 1) i
   moves a = record { behind = omega (arith, h .behind, h .within); within = omega arith; highest = highest-next i (omega arith) (omega arith) }
 
 -- of one waiter it is the place
-only-one : (queue owns : List ℕ) (r i : ℕ) → 1 ≤ i → i < 2 → at owns (entry queue r i) ≤ at owns (entry queue r 1)
-only-one queue owns r i a b = let e : i ≡ 1 = omega arith in rw e (omega arith)
+only-one : (queue numbers : List ℕ) (r i : ℕ) → 1 ≤ i → i < 2 → at numbers (entry queue r i) ≤ at numbers (entry queue r 1)
+only-one queue numbers r i a b = let e : i ≡ 1 = omega arith in rw e (omega arith)
 
 abbrev Inv-loop : tie.InvT-loop
-Inv-loop queue own r n start best₀ high₀ i₀ best high i = (i ≤ n) × (high ≡ at own (entry queue r best)) × Highest-place queue own r i best
+Inv-loop queue current r n start best₀ high₀ i₀ best high i = (i ≤ n) × (high ≡ at current (entry queue r best)) × Highest-place queue current r i best
 
 abbrev μ-loop : tie.MeasureT-loop
-μ-loop queue own r n start best₀ high₀ i₀ best high i = n - i
+μ-loop queue current r n start best₀ high₀ i₀ best high i = n - i
 
 returns : tie.Need-returns Inv-loop μ-loop
 returns c = inl (c .if1 .taken, refl)
@@ -59,7 +59,7 @@ value-requires c κs = search needs
 loop-holds : tie.Need-loop-holds Inv-loop μ-loop
 loop-holds c =
     let a = c .before .before .before .args in
-    (omega arith, search needs, record { behind = omega arith; within = omega arith; highest = only-one (a .queue .now) (a .own .now) (a .r) })
+    (omega arith, search needs, record { behind = omega arith; within = omega arith; highest = only-one (a .queue .now) (a .current .now) (a .r) })
 
 add-value-2 : tie.Need-add-value-2 Inv-loop μ-loop
 add-value-2 c = omega arith
@@ -83,13 +83,13 @@ loop-again c =
     let v = c .before .value2 .ensures in
     let e = h .loop .inv .1 in (
       omega arith,
-      ⊎-elim {C = c .if2 .high ≡ at (a .own .now) (entry (a .queue .now) (a .r) (c .if2 .best))}
-          (λ w. w .2 ∙ v ∙ ap (λ (j : ℕ). at (a .own .now) (entry (a .queue .now) (a .r) j)) (sym (w .1)))
-          (λ w. w .2 ∙ e ∙ ap (λ (j : ℕ). at (a .own .now) (entry (a .queue .now) (a .r) j)) (sym (w .1)))
+      ⊎-elim {C = c .if2 .high ≡ at (a .current .now) (entry (a .queue .now) (a .r) (c .if2 .best))}
+          (λ w. w .2 ∙ v ∙ ap (λ (j : ℕ). at (a .current .now) (entry (a .queue .now) (a .r) j)) (sym (w .1)))
+          (λ w. w .2 ∙ e ∙ ap (λ (j : ℕ). at (a .current .now) (entry (a .queue .now) (a .r) j)) (sym (w .1)))
           (c .if2 .came),
-      ⊎-elim {C = Highest-place (a .queue .now) (a .own .now) (a .r) (h .loop .i + 1) (c .if2 .best)}
-          (λ w. rw (w .1) (moves (a .queue .now) (a .own .now) (a .r) (h .loop .i) (h .loop .best) (h .loop .inv .2) (omega (arith, w .0 .taken, v, e))))
-          (λ w. rw (w .1) (stays (a .queue .now) (a .own .now) (a .r) (h .loop .i) (h .loop .best) (h .loop .inv .2) (omega (arith, w .0 .left, v, e))))
+      ⊎-elim {C = Highest-place (a .queue .now) (a .current .now) (a .r) (h .loop .i + 1) (c .if2 .best)}
+          (λ w. rw (w .1) (moves (a .queue .now) (a .current .now) (a .r) (h .loop .i) (h .loop .best) (h .loop .inv .2) (omega (arith, w .0 .taken, v, e))))
+          (λ w. rw (w .1) (stays (a .queue .now) (a .current .now) (a .r) (h .loop .i) (h .loop .best) (h .loop .inv .2) (omega (arith, w .0 .left, v, e))))
           (c .if2 .came),
     )
 
