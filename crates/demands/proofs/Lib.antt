@@ -35,3 +35,5 @@ pub mod NothingFree
 pub mod Used
 pub mod Played
 pub mod Witness
+-- The rule of V that was amended.
+pub mod OldRule
