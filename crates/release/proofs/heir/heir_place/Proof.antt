@@ -59,7 +59,7 @@ value-requires c κs = search needs
 loop-holds : tie.Need-loop-holds Inv-loop μ-loop
 loop-holds c =
     let a = c .before .before .before .args in
-    (omega arith, search needs, record { behind = omega arith; within = omega arith; highest = only-one (a .queue .now) (a .current .now) (a .r) })
+    (omega arith, c .value .ensures, record { behind = omega arith; within = omega arith; highest = only-one (a .queue .now) (a .current .now) (a .r) })
 
 add-value-2 : tie.Need-add-value-2 Inv-loop μ-loop
 add-value-2 c = omega arith
