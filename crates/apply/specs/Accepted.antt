@@ -1,5 +1,5 @@
 -- What an accepted record may count on, and what it leaves. Assumes nothing.
-use Prim.Native.Nat.{ℕ, _+_, _<_}
+use Prim.Native.Nat.{ℕ, _+_}
 use mathlib.Core.Path.{_≡_}
 use mathlib.Core.Option.{Option, some}
 use mathlib.Core.List.{List}
@@ -8,7 +8,7 @@ use Rattle.protocol.specs.Events.{Thread, Event}
 use Rattle.protocol.proofs.Lists.{Follows}
 use Rattle.table.specs.declared.Table.{Table}
 use Rattle.table.specs.declared.Slot.{Slot}
-use Rattle.table.specs.Table.{at, slot, queues}
+use Rattle.table.specs.Table.{slot, queues}
 use Rattle.table.specs.Compute.{runner}
 use Rattle.table.specs.code.Shape.{table-of}
 use Rattle.table.specs.code.Tracks.{Known}
@@ -19,20 +19,22 @@ use Rattle.events.specs.Count.{count}
 use Rattle.events.specs.code.Permits.{Permits}
 use Rattle.events.specs.code.Rows.{next-at}
 use Rattle.events.specs.code.Work.{Done-with, with-current}
+use Rattle.release.specs.declared.heir.Next.{Next}
+use Rattle.release.specs.Heir.{Next-right}
 use Rattle.apply.specs.declared.kinds.Change.{Change}
 use Rattle.apply.specs.declared.finish.Outcome.{Outcome}
 
 -- An accepted record, on a table that was found sound. The arrays are those of the table, s is the slot of its thread, the clock is its clock, and at a V whoever
--- stands at place p may follow.
-pub record Accepted (t : Table) (e : Record) (queue lengths holders waits owns currents : List ℕ) (s : Slot) (clock p : ℕ) : Type 0 where
+-- stands at the place of x may follow.
+pub record Accepted (t : Table) (e : Record) (queue lengths holders waits owns currents : List ℕ) (s : Slot) (clock : ℕ) (x : Next) : Type 0 where
   pub known : Known t waits holders owns currents
   pub unrefused : lowest (refusals t e) ≡ 0
   pub queue-is : queue ≡ t .queue
   pub lengths-are : lengths ≡ t .length
   pub slot-is : s ≡ slot t (e .thread)
   pub clock-is : clock ≡ t .clock
-  pub place : e .kind ≡ 5 → p < at lengths (e .argument)
-  pub follows : e .kind ≡ 5 → Follows (queues t (e .argument)) (next-at queue (e .argument) p)
+  pub next-right : e .kind ≡ 5 → Next-right queue lengths currents (e .argument) x
+  pub follows : e .kind ≡ 5 → Follows (queues t (e .argument)) (next-at queue (e .argument) (x .place))
 
 -- the table with the slot s for th and these queues, one event later
 abbrev pub made-table : Table → Thread → Slot → List ℕ → List ℕ → Table

@@ -10,6 +10,7 @@ ghost use Rattle.apply.specs.Stored.{time-in, Stored-of};
 use crate::kinds::Change;
 use crate::kinds::apply;
 use refusals::Record;
+use release::heir::Next;
 use table::Slot;
 use table::Table;
 use table::running::running;
@@ -68,7 +69,7 @@ fn to_store(current: &[u32; Table::THREADS], change: Change, running: u8) -> Out
     }
 }
 
-// The queues lent become those after the event, where whoever stands at place `next` follows at a V, and so do the numbers of the current
+// The queues lent become those after the event, where whoever stands at the place of `next` follows at a V, and so do the numbers of the current
 // precedences; all else that it changes is in the result.
 pub fn carry_out<'a>(
     queue: &'a mut [u8; Table::PLACES],
@@ -80,11 +81,11 @@ pub fn carry_out<'a>(
     slot: Slot,
     clock: u16,
     e: Record,
-    next: usize,
+    next: Next,
 ) -> Outcome
     requires { ⌜ (length (now current) ≡ 32) × ((t : Table) × Accepted t e (now queue) (now lengths) holders waits (now own) (now current) slot clock next) ⌝ }
     ensures { λ o. ⌜ ((t : Table) → Accepted t e (now (queue .entry)) (now (lengths .entry)) holders waits (now (own .entry)) (now (current .entry)) slot clock next →
-        Carried t e (next-at (now (queue .entry)) (e .argument) next) (now (queue .exit)) (now (lengths .exit)) o) ⌝ }
+        Carried t e (next-at (now (queue .entry)) (e .argument) (next .place)) (now (queue .exit)) (now (lengths .exit)) o) ⌝ }
 {
     let mut waiting = waits;
     let mut held = holders;

@@ -8,6 +8,7 @@ use crate::one_slot::create;
 use crate::one_slot::exit;
 use crate::one_slot::set_anew;
 use refusals::Record;
+use release::heir::Next;
 use release::release;
 use request::request;
 use table::Slot;
@@ -28,7 +29,7 @@ impl Change {
 }
 
 // The arrays lent become those of the table after the event. `slot` is the slot of its thread before it, `clock` its time, and at a V
-// whoever stands at place `next` follows.
+// whoever stands at the place of `next` follows.
 pub fn apply<'a>(
     queue: &'a mut [u8; Table::PLACES],
     lengths: &'a mut [u8; Table::RESOURCES],
@@ -39,11 +40,11 @@ pub fn apply<'a>(
     slot: Slot,
     clock: u16,
     e: Record,
-    next: usize,
+    next: Next,
 ) -> Change
     requires { ⌜ Sized (now waits) (now holders) (now current) × ((t : Table) × Accepted t e (now queue) (now lengths) (now holders) (now waits) (now own) (now current) slot clock next) ⌝ }
     ensures { λ c. ⌜ ((t : Table) → Accepted t e (now (queue .entry)) (now (lengths .entry)) (now (holders .entry)) (now (waits .entry)) (now (own .entry)) (now (current .entry)) slot clock next →
-        Applied t e (next-at (now (queue .entry)) (e .argument) next) (now (queue .exit)) (now (lengths .exit)) (now (holders .exit)) (now (waits .exit)) (now (current .exit)) c) ⌝ }
+        Applied t e (next-at (now (queue .entry)) (e .argument) (next .place)) (now (queue .exit)) (now (lengths .exit)) (now (holders .exit)) (now (waits .exit)) (now (current .exit)) c) ⌝ }
 {
     let kind = e.kind;
     let th = e.thread;

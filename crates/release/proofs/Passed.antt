@@ -8,7 +8,7 @@ use lib.ListN.{length, set}
 use Rattle.protocol.specs.Sets.{_∈_}
 use Rattle.protocol.specs.Events.{«V»}
 use Rattle.protocol.specs.Graph.{waits as waits-in}
-use Rattle.protocol.specs.Schedule.{release as leave}
+use Rattle.protocol.specs.Schedule.{update, release as leave}
 use Rattle.protocol.proofs.Lists.{Holding, Waiting, in-cases, update-cases}
 use Rattle.protocol.proofs.Chains.{Free}
 use Rattle.protocol.proofs.Ways.{free-waits, waits-free}
@@ -22,7 +22,7 @@ use Rattle.table.proofs.values.Known.{known-good, known-own, worths-tracked}
 use Rattle.events.specs.Events.{one-release-more}
 use Rattle.events.specs.code.Permits.{Permits, release}
 use Rattle.events.proofs.kept.Queues.{Queue-fits, release-passes, release-fits, release-low}
-use Rattle.events.proofs.frame.Queue.{after, after-good, now-queued, live-before, live-after, own-same, law-still, after-waits, waits-nothing, waits-still, holders-now, dead-still}
+use Rattle.events.proofs.frame.Queue.{after, after-good, now-queued, queues-after, live-before, live-after, own-same, law-still, after-waits, waits-nothing, waits-still, holders-now, dead-still}
 
 -- the thread that releases holds the resource and waits for nothing
 pub release-head : {t : Table} {th cs : ℕ} {next : Option ℕ} → Permits t («V» th cs next) → holds t th cs
@@ -54,12 +54,18 @@ module _ (t : Table) {waiting holders owns currents : List ℕ} (k : Known t wai
   abbrev pub passed-good : Good passed-on
   passed-good = after-good t k early cs left low fits
 
+  pub queues-passed : queues passed-on ≡ update (queues t) cs left
+  queues-passed = queues-after t k early cs left low fits
+
   -- the slots are what they were
   pub live-passed : (x : ℕ) → x ∈ live t → x ∈ live passed-on
   live-passed = live-after t k early cs left low fits
 
+  pub own-kept : (x : ℕ) → own-rank passed-on passed-good x ≡ own-rank t (known-good t k) x
+  own-kept = own-same t k early cs left low fits
+
   pub own-passed : (x : ℕ) → x ∈ live t → at owns x ≡ own-rank passed-on passed-good x
-  own-passed x l = known-own t k x l ∙ sym (own-same t k early cs left low fits x)
+  own-passed x l = known-own t k x l ∙ sym (own-kept x)
 
   pub dead-passed : (x : ℕ) → x < 32 → ¬ (x ∈ live passed-on) → at currents x ≡ 0
   dead-passed = dead-still t k early cs left low fits

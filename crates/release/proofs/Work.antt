@@ -6,7 +6,7 @@ use mathlib.Core.List.{List, [], _∷_}
 use mathlib.Core.Logic.{inl}
 use native.Mathlib.Omega.{arith}
 use lib.ListN.{length, set}
-use Rattle.protocol.specs.Sets.{distinct}
+use Rattle.protocol.specs.Sets.{distinct, Max}
 use Rattle.protocol.specs.Events.{«V»}
 use Rattle.protocol.specs.Schedule.{release as leave}
 use Rattle.protocol.proofs.Lists.{Holding, Waiting, behind-waiting}
@@ -18,16 +18,16 @@ use Rattle.table.specs.code.Tracks.{Tracks, Sized, Known}
 use Rattle.table.proofs.sound.Queues.{holds-first}
 use Rattle.table.proofs.sound.Read.{queue-length}
 use Rattle.table.proofs.values.Known.{known-good}
+use Rattle.chains.specs.Law.{Waiters-numbers, Compared}
 use Rattle.events.specs.Events.{with-queue, changed}
 use Rattle.events.specs.Count.{count, release-count}
 use Rattle.events.specs.code.Permits.{Permits}
 use Rattle.events.specs.code.Rows.{Row, rewritten}
 use Rattle.events.specs.code.Work.{Done-with}
 use Rattle.events.proofs.kept.Queues.{release-passes, release-low}
-use Rattle.release.specs.Afresh.{Both-afresh}
 use Rattle.release.proofs.Shift.{handed-length}
 use Rattle.release.proofs.Passed.{release-head, left, passed-on, waits-passed, dead-passed, law-passed, holders-passed, numbers-passed}
-use Rattle.release.proofs.Successor.{followed}
+use Rattle.release.proofs.Successor.{waiters-numbers, followed}
 
 -- a queue that th holds and in which nobody waits is th alone
 alone : (q : List ℕ) (th : ℕ) → distinct q → Holding q th → ((x : ℕ) → ¬ Waiting q x) → q ≡ th ∷ []
@@ -95,11 +95,12 @@ module _ (t : Table) {waiting holders owns currents : List ℕ} (k : Known t wai
     shorter : length (leave (queues t cs) (some b)) ≡ at (t .length) cs - 1
     shorter = handed-length (t .queue) cs p (at (t .length) cs) (row v) behind within
 
-    pub handed-on : Sized waiting holders currents → (e : List ℕ) → Both-afresh places-left lengths-left (set holders cs b) owns currents th b e → Done-with t («V» th cs (some b)) places-left lengths-left (set holders cs b) (set waiting b 16) e 2
+    pub handed-on : Sized waiting holders currents → (first : ℕ) → Max _≤_ (Compared places-left lengths-left (set holders cs b) currents 16 (at owns th) th) first →
+        (m : ℕ) → Max _≤_ (Waiters-numbers (t .queue) currents cs (at (t .length) cs)) m → Done-with t («V» th cs (some b)) places-left lengths-left (set holders cs b) (set waiting b 16) (set (set currents th first) b m) 2
     unfolding changed with-queue count release-count
-    handed-on sized e f = record {
+    handed-on sized first first-is m top = record {
       queue-is = refl;
       lengths-are = ap (set (t .length) cs) (sym shorter);
-      tracks = followed t k early v sized e (rw (← shorter) at f);
+      tracks = followed t k early v sized first (rw (← shorter) at first-is) m (waiters-numbers t k early v m top);
       counted = refl;
     }

@@ -14,7 +14,8 @@ ghost use Rattle.table.specs.code.Places.{entry};
 ghost use Rattle.table.specs.code.Tracks.{Sized};
 ghost use Rattle.events.specs.code.Rows.{Row, rewritten, next-at};
 ghost use Rattle.events.specs.code.Work.{Begun, Done-with};
-ghost use Rattle.release.specs.Afresh.{Both-afresh};
+ghost use Rattle.release.specs.Heir.{Next-right};
+use crate::heir::Next;
 use chains::law::afresh;
 use table::Table;
 use table::queues::wide;
@@ -45,27 +46,9 @@ fn vacate(queue: &mut [u8; Table::PLACES], r: usize)
     queue[r * Table::THREADS] = 0;
 }
 
-// The releaser and the heir, worked out afresh one after the other.
-fn both_afresh<'a>(
-    queue: &'a [u8; Table::PLACES],
-    lengths: &'a [u8; Table::RESOURCES],
-    holders: &'a [u8; Table::RESOURCES],
-    own: &'a [u32; Table::THREADS],
-    current: &'a mut [u32; Table::THREADS],
-    thread: usize,
-    heir: usize,
-)
-    requires { ⌜ (thread < 32) × (heir < 32) ⌝ }
-    ensures { λ _. ⌜ Both-afresh (now (queue .entry)) (now (lengths .entry)) (now (holders .entry)) (now (own .entry)) (now (current .entry)) thread heir (now (current .exit)) ⌝ }
-{
-    let first = afresh(queue, lengths, holders, own[thread], current, thread as u8);
-    current[thread] = first;
-    let second = afresh(queue, lengths, holders, own[heir], current, heir as u8);
-    current[heir] = second;
-}
-
-// Whoever stands at place p of the queue follows; place 0, the thread's own, stands for nobody. The thread waits for nothing, so whoever
-// else holds a resource keeps its precedence: only the two who hold this one, before and after, are worked out.
+// Whoever stands at the place of `next` follows; place 0, the thread's own, stands for nobody. The thread waits for nothing, so whoever
+// else holds a resource keeps its number: only the two who hold this one, before and after, are worked out. Whoever follows has the
+// highest number of those who waited, which comes with its place.
 pub fn release<'a>(
     queue: &'a mut [u8; Table::PLACES],
     lengths: &'a mut [u8; Table::RESOURCES],
@@ -75,32 +58,28 @@ pub fn release<'a>(
     own: &'a [u32; Table::THREADS],
     thread: u8,
     resource: u8,
-    p: usize,
+    next: Next,
 ) -> u8
-    requires { ⌜ Sized (now waits) (now holders) (now current) × (p < at (now lengths) resource) × ((t : Table) × Begun t («V» thread resource (next-at (now queue) resource p)) (now queue) (now lengths) (now holders) (now waits) (now own) (now current)) ⌝ }
-    ensures { λ n. ⌜ ((t : Table) → Begun t («V» thread resource (next-at (now (queue .entry)) resource p)) (now (queue .entry)) (now (lengths .entry)) (now (holders .entry)) (now (waits .entry)) (now (own .entry)) (now (current .entry)) →
-        Done-with t («V» thread resource (next-at (now (queue .entry)) resource p)) (now (queue .exit)) (now (lengths .exit)) (now (holders .exit)) (now (waits .exit)) (now (current .exit)) n) ⌝ }
+    requires { ⌜ Sized (now waits) (now holders) (now current) × Next-right (now queue) (now lengths) (now current) resource next × ((t : Table) × Begun t («V» thread resource (next-at (now queue) resource (next .place))) (now queue) (now lengths) (now holders) (now waits) (now own) (now current)) ⌝ }
+    ensures { λ n. ⌜ ((t : Table) → Begun t («V» thread resource (next-at (now (queue .entry)) resource (next .place))) (now (queue .entry)) (now (lengths .entry)) (now (holders .entry)) (now (waits .entry)) (now (own .entry)) (now (current .entry)) →
+        Done-with t («V» thread resource (next-at (now (queue .entry)) resource (next .place))) (now (queue .exit)) (now (lengths .exit)) (now (holders .exit)) (now (waits .exit)) (now (current .exit)) n) ⌝ }
 {
     let r = wide(resource);
     let n = lengths[r];
     lengths[r] = n - 1;
+    let p = next.place;
     if p == 0 {
         vacate(queue, r);
         holders[r] = Table::NOBODY;
         return 0;
     }
-    let next = queue[r * Table::THREADS + p];
+    let heir = queue[r * Table::THREADS + p];
     hand_over(queue, r, p, wide(n));
-    holders[r] = next;
-    waits[wide(next)] = Table::NOTHING;
-    both_afresh(
-        queue,
-        lengths,
-        holders,
-        own,
-        current,
-        wide(thread),
-        wide(next),
-    );
+    holders[r] = heir;
+    waits[wide(heir)] = Table::NOTHING;
+    let i = wide(thread);
+    let left = afresh(queue, lengths, holders, own[i], current, thread);
+    current[i] = left;
+    current[wide(heir)] = next.number;
     2
 }

@@ -14,13 +14,14 @@ use Rattle.events.specs.Events.{changed}
 use Rattle.events.specs.code.Work.{with-current}
 use Rattle.events.proofs.kept.Stays.{changed-good}
 use Rattle.events.proofs.accepted.Permitted.{early}
+use Rattle.release.specs.declared.heir.Next.{Next}
 use Rattle.apply.specs.declared.kinds.Change.{Change}
 use Rattle.apply.specs.declared.finish.Outcome.{Outcome}
 use Rattle.apply.specs.Accepted.{Accepted, Applied, Carried, made-table}
 use Rattle.apply.specs.Stored.{Stored-of}
 use Rattle.apply.proofs.finish.Stored.{numbers-low, stored-settled, runner-settled}
 
-module _ (t : Table) (e : Record) {queue lengths holders waits owns currents : List ℕ} {clock p : ℕ} {s : Slot} {next : Option ℕ} (a : Accepted t e queue lengths holders waits owns currents s clock p)
+module _ (t : Table) (e : Record) {queue lengths holders waits owns currents : List ℕ} {clock : ℕ} {s : Slot} {x : Next} {next : Option ℕ} (a : Accepted t e queue lengths holders waits owns currents s clock x)
     {queue′ lengths′ holders′ waits′ currents′ : List ℕ} {c : Change} (d : Applied t e next queue′ lengths′ holders′ waits′ currents′ c) where
   good : Good (changed t (d .event))
   good = changed-good t (known-good t (a .known)) (early t e (a .known .shape) (a .unrefused)) (d .permitted)

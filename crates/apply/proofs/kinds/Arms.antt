@@ -21,6 +21,7 @@ use Rattle.events.specs.code.Rows.{next-at}
 use Rattle.events.specs.code.Work.{Begun, Done-with}
 use Rattle.events.proofs.accepted.Named.{names-create, names-exit, names-set, names-request, names-release}
 use Rattle.events.proofs.accepted.Permitted.{early, create-permitted, exit-permitted, set-permitted, request-permitted, release-permitted}
+use Rattle.release.specs.declared.heir.Next.{Next}
 use Rattle.apply.specs.declared.kinds.Change.{Change}
 use Rattle.apply.specs.Accepted.{Accepted, Applied, made-table}
 
@@ -44,7 +45,7 @@ module _ (t : Table) (th : ℕ) where
   unfolding with-queue
   release-made cs q = rw (same-again (t .live) th, same-again (t .priority) th, same-again (t .time) th, same-again (t .requests) th)
 
-module _ (t : Table) (e : Record) {queue lengths holders waits owns currents : List ℕ} {s : Slot} {clock p : ℕ} (a : Accepted t e queue lengths holders waits owns currents s clock p) where
+module _ (t : Table) (e : Record) {queue lengths holders waits owns currents : List ℕ} {s : Slot} {clock : ℕ} {x : Next} (a : Accepted t e queue lengths holders waits owns currents s clock x) where
   -- an event that the table permits may begin
   pub begun : {ev : Event} → Permits t ev → Begun t ev queue lengths holders waits owns currents
   begun permits = record { known = a .known; early = early t e (a .known .shape) (a .unrefused); permitted = permits; queue-is = a .queue-is; lengths-are = a .lengths-are }
@@ -54,7 +55,7 @@ module _ (t : Table) (e : Record) {queue lengths holders waits owns currents : L
   totals-early = let low = a .known .sound .totals .low (e .thread) in let room = early t e (a .known .shape) (a .unrefused) in rw (a .slot-is) (omega (arith, low .0, room), omega (arith, low .1, room))
 
   abbrev pub next : Option ℕ
-  next = next-at queue (e .argument) p
+  next = next-at queue (e .argument) (x .place)
 
   module _ {queue′ lengths′ holders′ waits′ currents′ : List ℕ} {c : Change} where
     -- what it leaves is the record's, once the slot is the one that it writes

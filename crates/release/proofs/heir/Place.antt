@@ -21,12 +21,16 @@ use Rattle.table.proofs.values.Runs.{highest-number}
 use Rattle.events.specs.Events.{heir}
 use Rattle.events.specs.code.Rows.{next-at}
 use Rattle.events.proofs.Heir.{heir-follows, heir-topmost}
-use Rattle.release.specs.Heir.{Highest-place, Heir-place}
+use Rattle.release.specs.declared.heir.Next.{Next}
+use Rattle.release.specs.Heir.{Highest-place, Heir-place, Next-right}
 
--- what the code finds is a place of the queue, if it has any
-pub place-within : {queue numbers : List ℕ} {r n p : ℕ} → 1 ≤ n → Heir-place queue numbers r n p → p < n
-place-within more (inl (few, zero)) = omega arith
-place-within more (inr h) = h .within
+-- what the code finds is what a V may count on, where the queue has any entry
+pub heir-right : (queue lengths numbers : List ℕ) (r : ℕ) (x : Next) → 1 ≤ at lengths r → Heir-place queue numbers r (at lengths r) x → Next-right queue lengths numbers r x
+heir-right queue lengths numbers r x held (inl (few, zero)) = record { within = omega arith; greatest = λ more. absurd (omega arith) }
+heir-right queue lengths numbers r x held (inr (h, e)) = record {
+  within = h .within;
+  greatest = λ more. record { among = (x .place, h .behind, h .within, e); bound = λ a w. rw (w .3, e) (h .highest (w .0) (w .1) (w .2)) };
+}
 
 -- where fewer than two stand in a queue it has no heir
 no-heir : (t : Table) (q : List ℕ) → length q < 2 → heir t q ≡ none
@@ -35,8 +39,8 @@ no-heir t [] h = refl
 no-heir t (a ∷ []) h = refl
 no-heir t (a ∷ (x ∷ xs)) h = absurd (omega arith)
 
-module _ (t : Table) (g : Good t) {waiting holders currents : List ℕ} (k : Tracks t waiting holders currents) (r p : ℕ) (low : r < 16) where
-  module _ (h : Highest-place (t .queue) currents r (at (t .length) r) p) where
+module _ (t : Table) (g : Good t) {waiting holders currents : List ℕ} (k : Tracks t waiting holders currents) (r : ℕ) (low : r < 16) where
+  module _ (p : ℕ) (h : Highest-place (t .queue) currents r (at (t .length) r) p) where
     -- at that place stands a waiter
     e-waits : waits t (entry (t .queue) r p) r
     e-waits = behind-waits t (g .shape) (g .bare .queues-right .lengths) (entry (t .queue) r p) r (g .bare .queues-right .differ r) (p, h .behind, h .within, refl)
@@ -55,6 +59,6 @@ module _ (t : Table) (g : Good t) {waiting holders currents : List ℕ} (k : Tra
         go (some b) e f = e ∙ ap some (one-heir t g r b (entry (t .queue) r p) (heir-topmost t g r b e) e-topmost)
 
   -- whoever stands at the place that the code finds is the heir; place 0 where there is none
-  pub place-heir : Heir-place (t .queue) currents r (at (t .length) r) p → next-at (t .queue) r p ≡ heir t (queues t r)
-  place-heir (inl (few, z)) = rw (z, no-heir t (queues t r) (omega (arith, queue-length t g r low)))
-  place-heir (inr h) = rw (ne-eqb p 0 (omega (arith, h .behind))) (sym (highest-heir h))
+  pub place-heir : (x : Next) → Heir-place (t .queue) currents r (at (t .length) r) x → next-at (t .queue) r (x .place) ≡ heir t (queues t r)
+  place-heir x (inl (few, z)) = rw (z, no-heir t (queues t r) (omega (arith, queue-length t g r low)))
+  place-heir x (inr (h, e)) = rw (ne-eqb (x .place) 0 (omega (arith, h .behind))) (sym (highest-heir (x .place) h))

@@ -1,5 +1,5 @@
 -- `release::release` meets its contract. Assumes nothing.
-use Prim.Native.Nat.{ℕ, _*_, _-_, _<_}
+use Prim.Native.Nat.{ℕ, _*_, _-_, _≤_, _<_}
 use mathlib.Core.Path.{_≡_}
 use mathlib.Core.Option.{none, some}
 use mathlib.Core.List.{List, []}
@@ -8,28 +8,31 @@ use native.Mathlib.Omega.{arith}
 use borrow.Author.Needs.{needs}
 use borrow.Author.Tests.{ne-eqb}
 use lib.ListN.{set, take, drop}
+use Rattle.protocol.specs.Sets.{Max}
 use Rattle.protocol.specs.Events.{«V»}
 use Rattle.protocol.specs.Schedule.{release as leave}
 use Rattle.table.specs.declared.Table.{Table}
 use Rattle.table.specs.Table.{at}
 use Rattle.table.specs.code.Places.{entry}
 use Rattle.table.specs.code.Tracks.{Sized}
+use Rattle.chains.specs.Law.{Compared}
 use Rattle.events.specs.code.Permits.{Permits}
 use Rattle.events.specs.code.Rows.{Row, rewritten, next-at}
 use Rattle.events.specs.code.Work.{Begun, Done-with}
-use Rattle.release.specs.Afresh.{Both-afresh}
+use Rattle.release.specs.declared.heir.Next.{Next}
+use Rattle.release.specs.Heir.{Next-right}
 use Rattle.release.proofs.Successor.{both-low}
 use Rattle.release.proofs.Work.{row, last-one, vacated, handed-on}
 use Rattle.release.proofs.release.Statement.{statement}
 use Rattle.release.proofs.release.Tie as tie
 
 -- the values as the code has them, beside those of the laws
-module _ {queue lengths holders waiting owns currents : List ℕ} (t : Table) (th cs p : ℕ) (b : Begun t («V» th cs (next-at queue cs p)) queue lengths holders waiting owns currents) (r : ℕ) (wide : r ≡ cs) where
+module _ {queue lengths holders waiting owns currents : List ℕ} (t : Table) (th cs : ℕ) (x : Next) (b : Begun t («V» th cs (next-at queue cs (x .place))) queue lengths holders waiting owns currents) (r : ℕ) (wide : r ≡ cs) where
   its-row : Row queue r (at lengths r)
   its-row = rw (wide, b .queue-is, b .lengths-are) (row t (b .known) (b .early) (b .permitted))
 
   -- place 0: nobody follows
-  module _ (zero : p ≡ 0) where
+  module _ (zero : x .place ≡ 0) where
     no-next : Permits t («V» th cs none)
     no-next = rw zero at (b .permitted)
 
@@ -39,38 +42,42 @@ module _ {queue lengths holders waiting owns currents : List ℕ} (t : Table) (t
         rw one at its-row
 
     nobody : Sized waiting holders currents → (queue′ : List ℕ) → queue′ ≡ rewritten queue (r * 32) [] →
-        Done-with t («V» th cs (next-at queue cs p)) queue′ (set lengths r (at lengths r - 1)) (set holders r 32) waiting currents 0
+        Done-with t («V» th cs (next-at queue cs (x .place))) queue′ (set lengths r (at lengths r - 1)) (set holders r 32) waiting currents 0
     nobody sized queue′ e = rw (e, zero, wide, b .queue-is, b .lengths-are) (vacated t (b .known) (b .early) no-next sized)
 
   -- another place
-  module _ (not-zero : p ≢ 0) where
-    some-next : Permits t («V» th cs (some (entry (t .queue) cs p)))
-    some-next = rw (ne-eqb p 0 not-zero, b .queue-is) at (b .permitted)
+  module _ (not-zero : x .place ≢ 0) where
+    abbrev heir : ℕ
+    heir = entry queue r (x .place)
 
-    its-low : (th < 32) × (entry queue r p < 32)
+    some-next : Permits t («V» th cs (some (entry (t .queue) cs (x .place))))
+    some-next = rw (ne-eqb (x .place) 0 not-zero, b .queue-is) at (b .permitted)
+
+    its-low : (th < 32) × (heir < 32)
     its-low = rw (wide, b .queue-is) (both-low t (b .known) (b .early) some-next)
 
-    somebody : Sized waiting holders currents → p < at lengths cs → (m i h w : ℕ) → m ≡ at lengths r → i ≡ th → h ≡ entry queue r p → w ≡ entry queue r p →
-        (queue′ : List ℕ) → queue′ ≡ rewritten queue (r * 32) (leave (take m (drop (r * 32) queue)) (some (entry queue r p))) →
-        (e : List ℕ) → Both-afresh queue′ (set lengths r (at lengths r - 1)) (set holders r (entry queue r p)) owns currents i h e →
-        Done-with t («V» th cs (next-at queue cs p)) queue′ (set lengths r (at lengths r - 1)) (set holders r (entry queue r p)) (set waiting w 16) e 2
-    somebody sized within m i h w wide-m wide-i wide-h wide-w queue′ is e f =
-        rw (ne-eqb p 0 not-zero, is, wide-m, wide-w, wide, b .queue-is, b .lengths-are)
-        (handed-on t (b .known) (b .early) p some-next (omega arith) (rw (b .lengths-are) at within) sized e (rw (is, wide-m, wide-i, wide-h, wide, b .queue-is, b .lengths-are) at f))
+    somebody : Sized waiting holders currents → Next-right queue lengths currents cs x → (m i h w : ℕ) → m ≡ at lengths r → i ≡ th → h ≡ heir → w ≡ heir →
+        (queue′ : List ℕ) → queue′ ≡ rewritten queue (r * 32) (leave (take m (drop (r * 32) queue)) (some heir)) →
+        (first : ℕ) → Max _≤_ (Compared queue′ (set lengths r (at lengths r - 1)) (set holders r heir) currents 16 (at owns i) th) first →
+        Done-with t («V» th cs (next-at queue cs (x .place))) queue′ (set lengths r (at lengths r - 1)) (set holders r heir) (set waiting w 16) (set (set currents i first) h (x .number)) 2
+    somebody sized right m i h w wide-m wide-i wide-h wide-w queue′ is first first-is =
+        rw (ne-eqb (x .place) 0 not-zero, is, wide-m, wide-i, wide-h, wide-w, wide, b .queue-is, b .lengths-are)
+        (handed-on t (b .known) (b .early) (x .place) some-next (omega arith) (rw (b .lengths-are) at (right .within)) sized first (rw (is, wide-m, wide-i, wide, b .queue-is, b .lengths-are) at first-is)
+        (x .number) (rw (b .queue-is, b .lengths-are) at (right .greatest (omega arith))))
 
 -- the same of what the function knows once it has the resource's number
 row-at : (c : tie.After-wide) → Row (c .before .args .queue .now) (c .wide .result) (at (c .before .args .lengths .now) (c .wide .result))
-row-at c = let h = c .before in its-row (h .pre .2 .0) (h .args .thread) (h .args .resource) (h .args .p) (h .pre .2 .1) (c .wide .result) (c .wide .ensures .0)
+row-at c = let h = c .before in its-row (h .pre .2 .0) (h .args .thread) (h .args .resource) (h .args .next) (h .pre .2 .1) (c .wide .result) (c .wide .ensures .0)
 
-place-at : (c : tie.After-wide) → c .before .args .p < at (c .before .args .lengths .now) (c .wide .result)
-place-at c = rw (c .wide .ensures .0) (c .before .pre .1)
+place-at : (c : tie.After-wide) → c .before .args .next .place < at (c .before .args .lengths .now) (c .wide .result)
+place-at c = rw (c .wide .ensures .0) (c .before .pre .1 .within)
 
 -- and that somebody follows
-low-at : (c : tie.Else1) → (c .before .before .before .args .thread < 32) × (entry (c .before .before .before .args .queue .now) (c .before .before .wide .result) (c .before .before .before .args .p) < 32)
+low-at : (c : tie.Else1) → (c .before .before .before .args .thread < 32) × (entry (c .before .before .before .args .queue .now) (c .before .before .wide .result) (c .before .before .before .args .next .place) < 32)
 low-at c =
     let w = c .before .before in
     let h = w .before in
-    its-low (h .pre .2 .0) (h .args .thread) (h .args .resource) (h .args .p) (h .pre .2 .1) (w .wide .result) (w .wide .ensures .0) (c .if1 .left)
+    its-low (h .pre .2 .0) (h .args .thread) (h .args .resource) (h .args .next) (h .pre .2 .1) (w .wide .result) (w .wide .ensures .0) (c .if1 .left)
 
 wide-requires : tie.Need-wide-requires
 wide-requires c κs = search needs
@@ -88,7 +95,7 @@ vacate-requires : tie.Need-vacate-requires
 vacate-requires c κs =
     let w = c .before .before .before in
     let h = w .before in
-    one-entry (h .pre .2 .0) (h .args .thread) (h .args .resource) (h .args .p) (h .pre .2 .1) (w .wide .result) (w .wide .ensures .0) (c .before .if1 .taken)
+    one-entry (h .pre .2 .0) (h .args .thread) (h .args .resource) (h .args .next) (h .pre .2 .1) (w .wide .result) (w .wide .ensures .0) (c .before .if1 .taken)
 
 element-write-holders : tie.Need-element-write-holders
 element-write-holders c = row-at (c .before .before .before .before) .resource
@@ -97,16 +104,16 @@ returns : tie.Need-returns
 returns c =
     let w = c .before .before .before .before in
     let h = w .before in
-    λ t b. nobody t (h .args .thread) (h .args .resource) (h .args .p) b (w .wide .result) (w .wide .ensures .0) (c .before .before .if1 .taken) (h .pre .0) (c .vacate .last .0) (c .vacate .ensures)
+    λ t b. nobody t (h .args .thread) (h .args .resource) (h .args .next) b (w .wide .result) (w .wide .ensures .0) (c .before .before .if1 .taken) (h .pre .0) (c .vacate .last .0) (c .vacate .ensures)
 
-mul-next : tie.Need-mul-next
-mul-next c = search needs
+mul-heir : tie.Need-mul-heir
+mul-heir c = search needs
 
-add-next : tie.Need-add-next
-add-next c = let w = row-at (c .before .before) in omega (arith, w .resource, w .short, place-at (c .before .before))
+add-heir : tie.Need-add-heir
+add-heir c = let w = row-at (c .before .before) in omega (arith, w .resource, w .short, place-at (c .before .before))
 
-element-copy-out-next : tie.Need-element-copy-out-next
-element-copy-out-next c = let w = row-at (c .before .before) in omega (arith, w .resource, w .short, place-at (c .before .before))
+element-copy-out-heir : tie.Need-element-copy-out-heir
+element-copy-out-heir c = let w = row-at (c .before .before) in omega (arith, w .resource, w .short, place-at (c .before .before))
 
 wide-requires-2 : tie.Need-wide-requires-2
 wide-requires-2 c κs = search needs
@@ -128,27 +135,47 @@ element-write-waits c = omega (arith, c .wide3 .ensures .0, low-at (c .before .b
 wide-requires-4 : tie.Need-wide-requires-4
 wide-requires-4 c κs = search needs
 
+-- the thread's own number, and its place in the numbers
+thread-at : (c : tie.After-wide4) → c .wide4 .result < 32
+thread-at c = omega (arith, c .wide4 .ensures .0, low-at (c .before .before .before .before .before .before) .0)
+
+mul-afresh : tie.Need-mul-afresh
+mul-afresh c = search needs
+
+element-copy-out-afresh : tie.Need-element-copy-out-afresh
+element-copy-out-afresh c = thread-at (c .before .before .before)
+
+afresh-requires : tie.Need-afresh-requires
+afresh-requires c κs = search needs
+
+mul-current : tie.Need-mul-current
+mul-current c = search needs
+
+element-write-current : tie.Need-element-write-current
+element-write-current c = thread-at (c .before .before .before .before .before .before)
+
 wide-requires-5 : tie.Need-wide-requires-5
 wide-requires-5 c κs = search needs
 
-both-afresh-requires : tie.Need-both-afresh-requires
-both-afresh-requires c κs =
-    let low = low-at (c .before .before .before .before .before .before .before .before .before .before .before) in
-    (omega (arith, c .before .wide4 .ensures .0, low .0), omega (arith, c .wide5 .ensures .0, low .1))
+mul-current-2 : tie.Need-mul-current-2
+mul-current-2 c = search needs
+
+element-write-current-2 : tie.Need-element-write-current-2
+element-write-current-2 c = omega (arith, c .wide5 .ensures .0, low-at (c .before .before .before .before .before .before .before .before .before .before .before .before .before) .1)
 
 returns-2 : tie.Need-returns-2
 returns-2 c =
-    let five = c .before in
-    let four = five .before in
-    let three = four .before .before .before .before .before in
+    let worked = c .before in
+    let four = worked .before .before .before .before .before .before in
+    let three = four .before in
     let over = three .before in
     let two = over .before in
     let else = two .before .before .before in
     let w = else .before .before in
     let h = w .before in
-    λ t b. somebody t (h .args .thread) (h .args .resource) (h .args .p) b (w .wide .result) (w .wide .ensures .0) (else .if1 .left) (h .pre .0) (h .pre .1)
-    (two .wide2 .result) (four .wide4 .result) (five .wide5 .result) (three .wide3 .result) (two .wide2 .ensures .0) (four .wide4 .ensures .0) (five .wide5 .ensures .0) (three .wide3 .ensures .0)
-    (over .hand-over .last .0) (over .hand-over .ensures) (c .both-afresh .last .1 .1 .1 .1 .0) (c .both-afresh .ensures)
+    λ t b. somebody t (h .args .thread) (h .args .resource) (h .args .next) b (w .wide .result) (w .wide .ensures .0) (else .if1 .left) (h .pre .0) (h .pre .1)
+    (two .wide2 .result) (four .wide4 .result) (c .wide5 .result) (three .wide3 .result) (two .wide2 .ensures .0) (four .wide4 .ensures .0) (c .wide5 .ensures .0) (three .wide3 .ensures .0)
+    (over .hand-over .last .0) (over .hand-over .ensures) (worked .afresh .result) (worked .afresh .ensures)
 
 pub release-spec : {M : Type 1} → statement M
 release-spec =
@@ -161,15 +188,21 @@ release-spec =
     vacate-requires
     element-write-holders
     returns
-    mul-next
-    add-next
-    element-copy-out-next
+    mul-heir
+    add-heir
+    element-copy-out-heir
     wide-requires-2
     hand-over-requires
     element-write-holders-2
     wide-requires-3
     element-write-waits
     wide-requires-4
+    mul-afresh
+    element-copy-out-afresh
+    afresh-requires
+    mul-current
+    element-write-current
     wide-requires-5
-    both-afresh-requires
+    mul-current-2
+    element-write-current-2
     returns-2)

@@ -70,7 +70,7 @@ release-requires c κs =
     let h = c .before .before .before .before .before .before .before in
     let a = h .pre .1 .1 in
     let k = c .before .before .before .before .before .before .match .keys5 in
-    (h .pre .0, a .place k, (h .pre .1 .0, begun (h .pre .1 .0) (h .args .e) a (release-permitted (h .pre .1 .0) (h .args .e) (a .known .shape) (a .unrefused) k (a .follows k))))
+    (h .pre .0, a .next-right k, (h .pre .1 .0, begun (h .pre .1 .0) (h .args .e) a (release-permitted (h .pre .1 .0) (h .args .e) (a .known .shape) (a .unrefused) k (a .follows k))))
 
 of-requires-5 : tie.Need-of-requires-5
 of-requires-5 c κs = search needs

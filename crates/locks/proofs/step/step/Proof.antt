@@ -5,13 +5,14 @@ use mathlib.Core.Bool.{Bool, true}
 use mathlib.Core.Logic.{⊎-elim}
 use native.Mathlib.Omega.{arith}
 use borrow.Author.Needs.{needs}
-use Rattle.table.specs.Table.{at, queues}
+use Rattle.table.specs.Table.{queues}
 use Rattle.table.specs.code.Shape.{Shape}
 use Rattle.table.proofs.sound.Typed.{typed-shape}
 use Rattle.soundness.specs.Checked.{Checked-right}
 use Rattle.refusals.specs.Refusals.{refusals, lowest}
 use Rattle.events.specs.Events.{heir}
 use Rattle.events.specs.code.Rows.{next-at}
+use Rattle.release.specs.Heir.{Next-right}
 use Rattle.events.proofs.Heir.{heir-follows}
 use Rattle.events.proofs.accepted.Permitted.{early, low}
 use Rattle.apply.specs.Accepted.{Accepted}
@@ -68,7 +69,7 @@ in-table c = omega (arith, c .wide .ensures .0, thread-low (c .before))
 
 -- at a V the heir follows
 follows : (f : tie.After-follower) → let h = entry (judging (passing f)) .args in
-    h .e .kind ≡ 5 → (f .follower .result < at (h .t1 .length) (h .e .argument)) × (next-at (h .t1 .queue) (h .e .argument) (f .follower .result) ≡ heir (h .t1) (queues (h .t1) (h .e .argument)))
+    h .e .kind ≡ 5 → Next-right (h .t1 .queue) (h .t1 .length) (second (judging (passing f)) .numbers2 .result) (h .e .argument) (f .follower .result) × (next-at (h .t1 .queue) (h .e .argument) (f .follower .result .place) ≡ heir (h .t1) (queues (h .t1) (h .e .argument)))
 follows f =
     let d = passing f in
     f .follower .ensures (entry (judging d) .args .t1) _ _ _ (checked (judging d) .known (unrefused d .0)) (unrefused d .1) refl refl
@@ -86,7 +87,7 @@ accepted f =
       lengths-are = refl;
       slot-is = rw (c .before .before .before .before .before .before .wide .ensures .0) at (c .of .ensures);
       clock-is = refl;
-      place = λ k. follows f k .0;
+      next-right = λ k. follows f k .0;
       follows = λ k. rw (follows f k .1) (heir-follows t (queues t _) (checked (judging d) .known (unrefused d .0) .sound .bare .queues-right .differ _));
     }
 

@@ -12,8 +12,11 @@ use Rattle.release.proofs.heir.follower.Tie as tie
 short : (h : tie.Start) → h .args .e .kind ≡ 5 → (r : ℕ) → r ≡ h .args .e .argument → at (h .args .lengths .now) r ≤ 32
 short h kind r index = rw (index, h .pre .6) (named-short (h .pre .0) (h .args .e) (h .pre .4) (h .pre .5) kind)
 
+of-requires : tie.Need-of-requires
+of-requires c κs = search needs
+
 returns : tie.Need-returns
-returns c t waits holders owns k z q l kind = absurd (c .if1 .taken kind)
+returns c t waits holders owns k z q l kind = absurd (c .before .if1 .taken kind)
 
 wide-requires : tie.Need-wide-requires
 wide-requires c κs = search needs
@@ -44,6 +47,7 @@ pub follower-spec : {M : Type 1} → statement M
 follower-spec =
     tie.close
     (tie.spec
+    of-requires
     returns
     wide-requires
     element-copy-out-wide

@@ -9,6 +9,7 @@ use native.Mathlib.Omega.{arith}
 use borrow.Author.Needs.{needs}
 use Rattle.table.specs.Table.{at}
 use Rattle.table.specs.code.Places.{entry}
+use Rattle.release.specs.declared.heir.Next.{Next}
 use Rattle.release.specs.Heir.{Highest-place}
 use Rattle.release.proofs.heir.heir_place.Statement.{statement}
 use Rattle.release.proofs.heir.heir_place.Tie as tie
@@ -41,8 +42,11 @@ Inv-loop queue current r n start best₀ high₀ i₀ best high i = (i ≤ n) ×
 abbrev μ-loop : tie.MeasureT-loop
 μ-loop queue current r n start best₀ high₀ i₀ best high i = n - i
 
+of-requires : tie.Need-of-requires Inv-loop μ-loop
+of-requires c κs = search needs
+
 returns : tie.Need-returns Inv-loop μ-loop
-returns c = inl (c .if1 .taken, refl)
+returns c = inl (c .before .if1 .taken, ap (λ (x : Next). x .place) (c .of .ensures))
 
 mul-start : tie.Need-mul-start Inv-loop μ-loop
 mul-start c = omega arith
@@ -93,11 +97,14 @@ loop-again c =
           (c .if2 .came),
     )
 
+of-requires-2 : tie.Need-of-requires-2 Inv-loop μ-loop
+of-requires-2 c κs = search needs
+
 returns-2 : tie.Need-returns-2 Inv-loop μ-loop
 returns-2 c =
-    let h = c .before in
+    let h = c .before .before in
     let e : h .loop .i ≡ h .before .before .before .before .args .n = omega arith in
-    inr (rw e at (h .loop .inv .2))
+    inr (rw (c .of2 .ensures) ((rw e at (h .loop .inv .2)), h .loop .inv .1))
 
 pub heir-place-spec : {M : Type 1} → statement M
 heir-place-spec =
@@ -105,6 +112,7 @@ heir-place-spec =
     (tie.spec
     Inv-loop
     μ-loop
+    of-requires
     returns
     mul-start
     add-value
@@ -117,4 +125,5 @@ heir-place-spec =
     add-i
     loop-less
     loop-again
+    of-requires-2
     returns-2)
