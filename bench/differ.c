@@ -72,6 +72,7 @@ static struct {
     unsigned long long outcomes[OUTCOMES], alone[RULES], several, places[LOCKTABLE_BLOCK_RECORDS]; /* of log calls */
     unsigned long long starts[STARTS], spares[2][SPARES]; /* without a priority, with one */
     unsigned long long circles[LOCKTABLE_RESOURCES + 1], led_back[LOCKTABLE_RESOURCES + 1]; /* by their holders */
+    unsigned long long carried[LOCKTABLE_RESOURCES], runs_on, by_time; /* of V: note_heir */
 } run;
 
 /* Mixed twice, so that runs of neighbouring seeds have no test in common. */
@@ -144,6 +145,42 @@ _Noreturn static void fail(const struct side *s, enum call call, const struct lo
     exit(1);
 }
 
+/* Of those who wait the one who is highest by these priorities and times. */
+static unsigned highest_waiter(const struct locktable *t, unsigned resource, const uint8_t *priority, const uint16_t *time)
+{
+    const uint8_t *queue = t->queue + LOCKTABLE_THREADS * resource;
+    unsigned best = queue[1];
+    for (unsigned i = 2; i < t->length[resource]; i++)
+        if (priority[queue[i]] > priority[best] || (priority[queue[i]] == priority[best] && time[queue[i]] < time[best]))
+            best = queue[i];
+    return best;
+}
+
+/* From the thread whose own precedence is this one's current precedence up to this one: how many holders there are on the way,
+   this one included. Set times differ, so they tell who that is. */
+static unsigned holders_up_to(const struct locktable *t, unsigned thread)
+{
+    unsigned at = 0, holders = 0;
+    while (!t->live[at] || t->time[at] != t->current_time[thread])
+        at++;
+    for (; at != thread; holders++)
+        at = model_resource(t, model_thread(t, (uint8_t)at).waits_for).holder;
+    return holders;
+}
+
+/* Counts an accepted V if the waiter of highest current precedence, the heir, is not the one of highest own precedence: by the
+   holders through whom the heir has its urgency. Of these also the ones after which the releaser runs on, and the ones where
+   of equal current priorities the own times would choose another. */
+static void note_heir(const struct locktable *t, struct locktable_record e, unsigned running)
+{
+    unsigned heir = highest_waiter(t, e.argument, t->current_priority, t->current_time);
+    if (heir == highest_waiter(t, e.argument, t->priority, t->time))
+        return;
+    run.carried[holders_up_to(t, heir)]++;
+    run.runs_on += running == e.thread;
+    run.by_time += heir != highest_waiter(t, e.argument, t->current_priority, t->time);
+}
+
 /* All sides on copies of one table; the model's result stays in `t` and `answer`. */
 static void compare(enum call call, struct locktable *t, struct locktable_record e, unsigned answer[ANSWER])
 {
@@ -164,6 +201,8 @@ static void compare(enum call call, struct locktable *t, struct locktable_record
         run.steps[e.kind < OTHER_KINDS ? e.kind : OTHER_KINDS][answer[0]]++;
         if (answer[0] == LOCKTABLE_ACCEPTED)
             run.counts[answer[2]]++;
+        if (answer[0] == LOCKTABLE_ACCEPTED && e.kind == LOCKTABLE_V && given.length[e.argument] > 1)
+            note_heir(&given, e, answer[1]);
     }
 }
 
@@ -617,7 +656,10 @@ static void print_totals(void)
     printf("\nsteps refused with %d, by the holders on the chain, from 1:", LOCKTABLE_CIRCLE);
     for (int i = 1; i <= LOCKTABLE_RESOURCES; i++)
         printf(" %llu", run.led_back[i]);
-    printf("\n");
+    printf("\nV that pass over the waiter of highest own precedence, by the holders up to the heir, from 1:");
+    for (int i = 1; i < LOCKTABLE_RESOURCES; i++)
+        printf(" %llu", run.carried[i]);
+    printf("; the releaser runs on: %llu, the current time decides: %llu\n", run.runs_on, run.by_time);
     print_terminal_totals();
     print_log_totals();
 }
@@ -663,6 +705,20 @@ static bool all_met_in_circles(void)
     return met;
 }
 
+/* Of V that pass over the waiter of highest own precedence each number of holders through whom the heir can have its urgency. */
+static bool all_met_in_heirs(void)
+{
+    bool met = true;
+    for (int i = 1; i < LOCKTABLE_RESOURCES; i++)
+        if (run.carried[i] == 0)
+            met = false, printf("FAILED: no V passed over the waiter of highest own precedence with %d holders up to the heir\n", i);
+    if (run.runs_on == 0)
+        met = false, printf("FAILED: no V passed over the waiter of highest own precedence and let the releaser run on\n");
+    if (run.by_time == 0)
+        met = false, printf("FAILED: no V passed over the waiter of highest own precedence by the time of a current one\n");
+    return met;
+}
+
 /* Of the terminal's calls each kind of table for a start, and what can come of a spare task, without a priority and with one. */
 static bool all_met_in_terminal(void)
 {
@@ -696,6 +752,7 @@ static bool all_met(void)
             met = false, printf("FAILED: no unsound table was given an event of kind %d\n", i);
     met &= all_met_in_totals();
     met &= all_met_in_circles();
+    met &= all_met_in_heirs();
     met &= all_met_in_terminal();
     return all_met_in_logs() && met;
 }

@@ -1,13 +1,17 @@
-/* A shipment of the terminal: sixteen fixed tasks, two spare ones, and a lock, the register.
+/* A shipment of the terminal: sixteen fixed tasks, two spare ones, and two locks, the register and the line.
    The tasks that have nothing to do end, until journal runs, which is slow and takes the register. Then label comes, which is of middling
    urgency and needs no lock, and draw, the most urgent of all. Draw wants the register and must wait. Without inheritance label would run
    ahead of journal now, and so of draw. Here journal runs at draw's urgency until it gives the register back, and then draw has it.
+   Later draw wants the line. Network has that, and waits for the register, which journal has again; so does label. By itself label
+   is more urgent than network, but network carries draw's urgency. So it is network that gets the register when journal gives it
+   back, and runs; it gives the line back, and draw has that.
    `bench/run --example` builds and runs it. */
 #include <stdio.h>
 #include "terminal.h"
 
-enum { REGISTER = 0 }; /* the lock is resource 0 */
-enum { DRAW = TERMINAL_DRAW, LABEL = 10, JOURNAL = 13, SELFTEST = 15, PRESS = 16, CRADLE = 17, TASKS };
+enum { REGISTER, LINE, LOCKS }; /* resources 0 and 1 */
+enum { DRAW = TERMINAL_DRAW, LABEL = 10, NETWORK = 12, JOURNAL = 13, SELFTEST = 15, PRESS = 16, CRADLE = 17, TASKS };
+static const char *const locks[LOCKS] = { "register", "line" };
 
 /* The place in these lists is the task's id in the table. Press and cradle are spare tasks. */
 static const char *const names[TASKS] = {
@@ -20,7 +24,7 @@ static const uint8_t priorities[TERMINAL_TASKS] = TERMINAL_PRIORITIES;
 static struct locktable table;
 static uint8_t running = LOCKTABLE_NOBODY;
 
-/* Whether draw has come and hasn't got the register yet, and whether label ran in that time. */
+/* Whether draw has come and hasn't got the lock yet that it wants, and whether label ran in that time. */
 static int draw_wants, label_ahead;
 
 static const char *name(uint8_t id) { return id < TASKS ? names[id] : "nobody"; }
@@ -49,11 +53,12 @@ static int event(uint8_t kind, uint8_t id, uint8_t argument, const char *words)
 /* A fixed task that has ended comes back at its own priority. */
 static int comes(uint8_t id) { return event(LOCKTABLE_CREATE, id, priorities[id], "comes"); }
 
-static int has_register(uint8_t id)
+/* The task holds the lock, and runs. */
+static int has(uint8_t id, uint8_t lock)
 {
-    struct locktable_resource_answer lock = locktable_resource(&table, REGISTER);
-    printf("%-8s has the register\n", name(lock.holder));
-    return lock.number == LOCKTABLE_ACCEPTED && lock.holder == id;
+    struct locktable_resource_answer a = locktable_resource(&table, lock);
+    printf("%-8s has the %s\n", name(a.holder), locks[lock]);
+    return a.number == LOCKTABLE_ACCEPTED && a.holder == id && running == id;
 }
 
 /* Two come, and a third is refused: its id is a fixed task's. */
@@ -75,7 +80,7 @@ static int others_end(void)
     return well;
 }
 
-/* While draw waits. Label is there and could run, but journal is ahead of it. */
+/* While draw waits, be it for another lock: journal runs at its urgency, and label doesn't. */
 static int journal_works(void)
 {
     printf("%-8s works\n", name(running));
@@ -86,7 +91,26 @@ static int draw_gets_register(void)
 {
     draw_wants = 1;
     int well = comes(DRAW) && event(LOCKTABLE_P, DRAW, REGISTER, "waits for the register") && journal_works()
-        && event(LOCKTABLE_V, JOURNAL, REGISTER, "gives the register back") && has_register(DRAW) && running == DRAW;
+        && event(LOCKTABLE_V, JOURNAL, REGISTER, "gives the register back") && has(DRAW, REGISTER);
+    draw_wants = 0;
+    return well;
+}
+
+/* Label comes later than network and is more urgent by itself, but it has nothing that draw will want. */
+static int two_wait(void)
+{
+    return event(LOCKTABLE_P, JOURNAL, REGISTER, "takes the register")
+        && comes(NETWORK) && event(LOCKTABLE_P, NETWORK, LINE, "takes the line")
+        && event(LOCKTABLE_P, NETWORK, REGISTER, "waits for the register")
+        && comes(LABEL) && event(LOCKTABLE_P, LABEL, REGISTER, "waits for the register");
+}
+
+static int draw_gets_line(void)
+{
+    draw_wants = 1;
+    int well = comes(DRAW) && event(LOCKTABLE_P, DRAW, LINE, "waits for the line") && journal_works()
+        && event(LOCKTABLE_V, JOURNAL, REGISTER, "gives the register back") && has(NETWORK, REGISTER)
+        && event(LOCKTABLE_V, NETWORK, LINE, "gives the line back") && has(DRAW, LINE);
     draw_wants = 0;
     return well;
 }
@@ -95,13 +119,15 @@ static int shipment(void)
 {
     return hear("terminal", "starts the shipment", terminal_start(&table)) && spare_tasks() && others_end()
         && event(LOCKTABLE_P, JOURNAL, REGISTER, "takes the register") && comes(LABEL) && draw_gets_register()
-        && event(LOCKTABLE_V, DRAW, REGISTER, "gives the register back") && event(LOCKTABLE_EXIT, DRAW, 0, "ends");
+        && event(LOCKTABLE_V, DRAW, REGISTER, "gives the register back") && event(LOCKTABLE_EXIT, DRAW, 0, "ends")
+        && event(LOCKTABLE_EXIT, LABEL, 0, "ends") && two_wait() && draw_gets_line()
+        && event(LOCKTABLE_V, DRAW, LINE, "gives the line back") && event(LOCKTABLE_EXIT, DRAW, 0, "ends");
 }
 
 int main(void)
 {
     int well = shipment() && !label_ahead;
-    printf(well ? "draw got the register; label never ran ahead of it\n"
-           : label_ahead ? "label ran ahead of draw\n" : "draw did not get the register\n");
+    printf(well ? "draw got the register, and later the line; label never ran ahead of it\n"
+           : label_ahead ? "label ran ahead of draw\n" : "somebody did not get a lock\n");
     return well && fflush(stdout) == 0 ? 0 : 1;
 }

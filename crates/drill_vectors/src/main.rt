@@ -19,6 +19,8 @@ fn list_all() -> bool {
         && list(b"bytes_1026.in")
         && list(b"chain_of_16.in")
         && list(b"contended.in")
+        && list(b"deep.in")
+        && list(b"deep_few.in")
         && list(b"empty.in")
         && list(b"four_threads.in")
         && list(b"junk.in")
