@@ -49,7 +49,7 @@ table-is (ask (resource cs) ∷ ks) = table-is ks
 pub data Tale : List Call → List ℕ → State → Type 0 where
   start : Tale [] [] []
   accept : {ks : List Call} {ns : List ℕ} {m : State} {e : Record} {ev : Event} → Writes m e ev → Tale ks ns m → Tale (event e ∷ ks) (0 ∷ ns) (ev ∷ m)
-  hand-over : {ks : List Call} {ns : List ℕ} {m : State} {e : Record} (a b : Thread) → e .kind ≡ 5 → wq m (e .argument) ≡ a ∷ b ∷ [] → b ≢ a → Tale ks ns m →
+  hand-over : {ks : List Call} {ns : List ℕ} {m : State} {e : Record} (a b : Thread) → e .kind ≡ 5 → wq m (e .argument) ≡ a ∷ b ∷ [] → b ≢ a → Any-calls ks → Tale ks ns m →
       Tale (event e ∷ ks) (0 ∷ ns) («V» (e .thread) (e .argument) (some b) ∷ m)
   refuse : {ks : List Call} {ns : List ℕ} {m : State} {e : Record} (n : ℕ) → Tale ks ns m → Tale (event e ∷ ks) (suc n ∷ ns) m
   query : {ks : List Call} {ns : List ℕ} {m : State} {q : Query} → Tale ks ns m → Tale (ask q ∷ ks) ns m
@@ -80,16 +80,16 @@ nobody m cs a q u w = go u (rw q at w)
     go u (inr x, n) = x
 
 -- where the numbers are the ones worked out, the events are those of the calls
-pub history : {ks : List Call} {ns : List ℕ} {m : State} → Tale ks ns m → Any-calls ks → play ks .1 ≡ ns → History the-calls empty ks m
+pub history : {ks : List Call} {ns : List ℕ} {m : State} → Tale ks ns m → play ks .1 ≡ ns → History the-calls empty ks m
 unfolding noted onward play
-history start any q = none-yet
-history (accept {ks = ks} {e = e} w tale) any q = accepted (history tale (any .1) (ap tail q)) (ap (λ (t : Table). answerOf t e .answer .number) (table-is ks) ∙ ap head q) w
-history (hand-over {ks = ks} {m = m} {e = e} a b k two ne tale) any q =
-    let h = history tale (any .1) (ap tail q) in
-    let v = after demand-2-met (right-any empty (start-reached .right)) (any .1) h .by-rules in
+history start q = none-yet
+history (accept {ks = ks} {e = e} w tale) q = accepted (history tale (ap tail q)) (ap (λ (t : Table). answerOf t e .answer .number) (table-is ks) ∙ ap head q) w
+history (hand-over {ks = ks} {m = m} {e = e} a b k two ne any tale) q =
+    let h = history tale (ap tail q) in
+    let v = after demand-2-met (right-any empty (start-reached .right)) any h .by-rules in
     accepted h (ap (λ (t : Table). answerOf t e .answer .number) (table-is ks) ∙ ap head q) (release k (second m v (e .argument) a b two ne))
-history (refuse {ks = ks} {e = e} n tale) any q = refused {e = e} (history tale (any .1) (ap tail q)) (λ z. absurd (omega (arith, sym (ap head q) ∙ sym (ap (λ (t : Table). answerOf t e .answer .number) (table-is ks)) ∙ z)))
-history (query tale) any q = asked (history tale (any .1) q)
+history (refuse {ks = ks} {e = e} n tale) q = refused {e = e} (history tale (ap tail q)) (λ z. absurd (omega (arith, sym (ap head q) ∙ sym (ap (λ (t : Table). answerOf t e .answer .number) (table-is ks)) ∙ z)))
+history (query tale) q = asked (history tale q)
 
 -- whether all that is passed is bytes
 unfoldable pub in-bytes : Call → Bool

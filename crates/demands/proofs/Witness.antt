@@ -74,14 +74,15 @@ until = accept (create refl) (accept (request refl) (accept (create refl) (accep
 
 -- and s′ since.
 since : Tale (ks′ ++ ks) numbers (s′ ++ s)
+unfolding in-bytes all-in-bytes
 since =
     query (
     accept (request refl) (
     accept (release refl (nobody m₃ 1 1 refl)) (
     refuse 10 (
-    hand-over 2 1 refl refl (λ e. omega arith) (
+    hand-over 2 1 refl refl (λ e. omega arith) (tells-all-bytes (drop 3 before-last ++ ks) .0 refl) (
     refuse 7 (
-    hand-over 0 2 refl refl (λ e. omega arith) (
+    hand-over 0 2 refl refl (λ e. omega arith) (tells-all-bytes (drop 5 before-last ++ ks) .0 refl) (
     refuse 10 (
     accept (set-anew refl) (
     accept (create refl) (
@@ -123,8 +124,8 @@ unfolding in-bytes all-in-bytes noted onward play ended after
 met = record {
   memory = right-any empty (start-reached .right);
   bytes = tells-all-bytes (ks′ ++ ks) .0 refl;
-  moment = history until (tells-all-bytes ks .0 refl) (ap (λ (x : Ending × List ℕ). drop 13 (x .0 .numbered)) worked-out);
-  later = history since (tells-all-bytes (ks′ ++ ks) .0 refl) (ap (λ (x : Ending × List ℕ). x .0 .numbered) worked-out);
+  moment = history until (ap (λ (x : Ending × List ℕ). drop 13 (x .0 .numbered)) worked-out);
+  later = history since (ap (λ (x : Ending × List ℕ). x .0 .numbered) worked-out);
   live = live;
   highest = highest;
   spared = spared;
@@ -160,5 +161,4 @@ bound-reached = refl
 -- In the second example what thread 0 calls after it let go would not count (`until-let-go` and `one-of-three` in protocol's Witness), though its events come about. While a first thread stands highest
 -- such calls are refused: see `Set 0 7` above.
 pub lets-go-and-calls : History the-calls empty ks₂ (s₂′ ++ s₂)
-unfolding in-bytes all-in-bytes
-lets-go-and-calls = history (accept (request refl) (accept (set-anew refl) (accept (release refl (nobody s₂ 0 0 refl)) (accept (request refl) (accept (create refl) start))))) (tells-all-bytes ks₂ .0 refl) (ap (λ (x : Ending × List ℕ). x .1) worked-out)
+lets-go-and-calls = history (accept (request refl) (accept (set-anew refl) (accept (release refl (nobody s₂ 0 0 refl)) (accept (request refl) (accept (create refl) start))))) (ap (λ (x : Ending × List ℕ). x .1) worked-out)
