@@ -8,7 +8,7 @@ BENCH = os.path.dirname(os.path.abspath(__file__))
 
 WORKLOADS = {
     'small': 'the vector `small`',
-    'contended': 'the vector `contended`',
+    'contended': 'the records `contended`',
     'chain_of_16': 'the vector `chain_of_16`',
     'live_2': 'busy history, 2 live threads',
     'live_8': 'busy history, 8 live threads',
@@ -57,7 +57,7 @@ THREE = ['locktable', 'fast', 'best']
 # The test whether a table is sound, a function of its own in each version, in the same order; a step and a query make it once.
 TESTS = ['soundness::check::check', 'fast_look', 'best_look', 'nosse_look']
 # A plain C version, measured the same way: what is known of it.
-PLAIN = {('small', 'mean'): 4000, ('contended', 'mean'): 4400, ('chain_of_16', 'worst'): 8500}
+PLAIN = {('small', 'mean'): 4000, ('chain_of_16', 'worst'): 8500}
 MOST_TO_C, MOST_AT_32, MOST_STACK, MOST_STACK_TO_C = 1.4, 12000, 5120, 256
 
 
@@ -264,8 +264,8 @@ A plain C version that is not in this tree was measured at
 {plain},
 and 560 bytes of stack.
 
-What is counted: in a busy history accepted events only. The vectors and the made tables have refused ones too, which
-the tables by kind of event show apart. Set times 64 apart share a mark in the test whether they differ, in the library
+What is counted: in a busy history accepted events only. The vectors, the records `contended` (`bench/contended.in`)
+and the made tables have refused ones too, which the tables by kind of event show apart. Set times 64 apart share a mark in the test whether they differ, in the library
 and in `best.c`, so that it compares each with all others.
 
 ## Against the goals
@@ -285,8 +285,8 @@ in a hundred of it. The worst that were found are kept in `bench/worst`, with ev
 like the other histories.
 
 Dear for both are waiters: the test passes over each of them, and over each resource that is waited for. A V passes once
-more over those who wait for what it releases, to find who follows, to move up those behind and to work out the new
-holder, and over those who wait for what its thread still holds. Dear for ours are besides set times that share a mark,
+more over those who wait for what it releases, to find who follows and to move up those behind, and over those who wait
+for what its thread still holds. Dear for ours are besides set times that share a mark,
 since each is compared with all others; ids that rise from waiters to holders, since the circle test then starts anew
 from more of them; and a high id of the thread that runs, before and after, since of all below it is asked whether they
 wait.

@@ -3,8 +3,8 @@
 #include "locktable.h"
 #include "locktable.h"
 
-#if LOCKTABLE_VERSION != 3
-#error "these answers are those of version 3"
+#if LOCKTABLE_VERSION != 4
+#error "these answers are those of version 4"
 #endif
 
 /* Through pointers, so that no compiler takes its own convention for the call: their types have LOCKTABLE_ABI, as the header says. */

@@ -4,8 +4,8 @@
 #include "locktable.h"
 #include "terminal.h"
 
-#if TERMINAL_VERSION != 1 || LOCKTABLE_VERSION != 3
-#error "these answers are those of version 1, on a table of version 3"
+#if TERMINAL_VERSION != 1 || LOCKTABLE_VERSION != 4
+#error "these answers are those of version 1, on a table of version 4"
 #endif
 
 /* Through pointers, as in header.c. */

@@ -63,10 +63,11 @@
 
 /* Raised by one whenever something changes that a program could notice: a layout, a kind of event, a
  * number in an answer, what a call takes, does or answers, or which calls there are. Other words and
- * faster code leave it as it is. Version 3 has five kinds of event and six calls, and counts requests and
- * releases (version 2 did not, and version 1 had no log). The archive has no such number in it: take both
- * from the same tree. */
-#define LOCKTABLE_VERSION 3
+ * faster code leave it as it is. Version 4 has five kinds of event and six calls, and of those who wait the
+ * one of highest current precedence takes over (in version 3 the one of highest own precedence did; version
+ * 2 did not count requests and releases, and version 1 had no log). The archive has no such number in it:
+ * take both from the same tree. */
+#define LOCKTABLE_VERSION 4
 
 /* The calls go by the System V convention of x86-64, whatever the compiler's own one is: UEFI and Windows
  * have another, and so has -mabi=ms. A pointer to a call needs the same word in its type. A compiler that has
@@ -157,8 +158,10 @@ enum locktable_kind {
      * was free. If it was not, the thread waits, and is no longer the running one: so accepted is not yet
      * held. It holds the resource exactly if the answer still names it as running. */
     LOCKTABLE_P = 4,
-    /* It releases one: of those who wait the one of highest own precedence becomes holder, the rest keep
-     * their order. Who that is, locktable_resource tells. */
+    /* It releases one: of those who wait the one of highest current precedence, in the table before the
+     * event, becomes holder, the rest keep their order. So a lock goes to whoever is most urgent for the sake
+     * of others too. In a sound table there is just one: nobody is blocked behind two who wait for the same
+     * resource. Who that is, locktable_resource tells. */
     LOCKTABLE_V = 5
 };
 
@@ -338,6 +341,11 @@ LOCKTABLE_ABI struct locktable_resource_answer locktable_resource(const struct l
  * after the event and nothing taken off. A kernel that cannot mend it should log no more in this shipment,
  * and say so: later records of that block are refused too, as a rule, but the first one of the next block
  * is not, since the call looks at no other block. The log would then have a gap.
+ *
+ * A log names nobody who took over. That comes out when its records are stepped again from the empty table,
+ * and so by the rules in force there: a log that was written with version 3 or below can be refused on the
+ * way, or lead to another table, when it is read with this one. Its bytes have no room for a mark, so keep
+ * LOCKTABLE_VERSION beside a log that is to be read later.
  *
  * What the check is good for: if any one byte of a good block is changed, or if two bytes of it that
  * differ are exchanged, the block is good no more (proved, crates/log/proofs/Promise.antt). What it is not

@@ -18,7 +18,6 @@ fn list_all() -> bool {
     list(b"bytes_1025.in")
         && list(b"bytes_1026.in")
         && list(b"chain_of_16.in")
-        && list(b"contended.in")
         && list(b"deep.in")
         && list(b"deep_few.in")
         && list(b"empty.in")
