@@ -280,7 +280,7 @@ and in `best.c`, so that it compares each with all others.
 
 `bench/run --search` looks for the table and the record whose step takes the most instructions: by chance, and then by
 small changes to the dearest that it has. Any sound table will do, whether events lead to it or not. What it finds is a
-lower bound and no proof: there may be a worse table. Searches from several seeds came to the same figure, or within one
+lower bound and no proof: there may be a worse table. Searches from several seeds came to the same figure, or within two
 in a hundred of it. The worst that were found are kept in `bench/worst`, with every number in them, and are counted here
 like the other histories.
 

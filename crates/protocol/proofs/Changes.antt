@@ -18,7 +18,7 @@ use Rattle.protocol.proofs.Highest.{max-unique, max-map}
 use Rattle.protocol.proofs.Chains.{Depends, Reach, Free, hop-reach, depends-reach, reach-depends, free-independent, no-circle}
 use Rattle.protocol.proofs.Graphs.{leads, depends-way}
 use Rattle.protocol.proofs.Hops.{depends-map, depends-but, depends-added}
-use Rattle.protocol.proofs.Lists.{Holding, hd-one, heir-holds}
+use Rattle.protocol.proofs.Lists.{Holding, hd-one}
 use Rattle.protocol.proofs.Ways.{one-holder, waits-free}
 use Rattle.protocol.proofs.Kept.{joins, passes, releaser-holds, caller-runs, last-step, valid-before}
 use Rattle.protocol.proofs.Forest.{Joins, children-join, join-children, join-new, Passes, pass-queue, pass-waits, pass-children, children-pass, heir-free}
@@ -110,7 +110,7 @@ pass-cprec s th cs th′ v th″ n n′ = same-behind s′ s th″
     p = passes s th cs (some th′) v
 
     heir : Holding (release (wq s cs) (some th′)) th′
-    heir = heir-holds (wq s cs) th′ (p .follows)
+    heir = holds-next p
 
 -- V with a successor: whoever follows.
 module _ (s : State) (th : Thread) (cs : Resource) (th′ : Thread) (v : valid («V» th cs (some th′) ∷ s)) where
