@@ -69,8 +69,8 @@ fn to_store(current: &[u32; Table::THREADS], change: Change, running: u8) -> Out
     }
 }
 
-// The queues lent become those after the event, where whoever stands at the place of `next` follows at a V, and so do the numbers of the current
-// precedences; all else that it changes is in the result.
+// The queues lent become those after the event, where whoever stands at the place of `next` follows at a V, and so do the numbers of the
+// current precedences; all else that it changes is in the result.
 pub fn carry_out<'a>(
     queue: &'a mut [u8; Table::PLACES],
     lengths: &'a mut [u8; Table::RESOURCES],

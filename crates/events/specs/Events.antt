@@ -1,4 +1,4 @@
--- Document 01, "Accepted events": the table after each, with document 02's totals. Assumes nothing.
+-- Document 01, "Accepted events": the table after each, with document 02's totals and next holder. Assumes nothing.
 use Prim.Native.Nat.{ℕ, zero, suc, _+_, _*_, _-_}
 use mathlib.Core.Bool.{cond}
 use mathlib.Core.Option.{Option, none, some}
