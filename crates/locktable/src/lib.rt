@@ -7,6 +7,7 @@ ghost use Rattle.table.specs.Table.{empty};
 ghost use Rattle.queries.specs.Queries.{running-answer, thread-answer, resource-answer};
 ghost use Rattle.locks.specs.Answers.{answerOf};
 ghost use Rattle.log.specs.Keep.{Keeps};
+ghost use Rattle.replay.specs.Read.{Gives};
 ghost use Rattle.locktable.specs.Four.{four-of};
 use lent::step_lent;
 use locks::Answer;
@@ -18,6 +19,8 @@ use queries::ThreadAnswer;
 use queries::resource_of;
 use queries::running_of;
 use queries::thread_of;
+use replay::Replayed;
+use replay::replay;
 use table::Table;
 
 // An event: the lent table is the step's afterwards.
@@ -64,4 +67,12 @@ pub extern "C" fn locktable_log(log: &mut [u8], so_far: u32, e: Record) -> u8
     ensures { λ r. ⌜ Keeps (now (log .entry)) «so_far» (four-of e) r (now (log .exit)) ⌝ }
 {
     keep(log, so_far, [e.kind, e.thread, e.argument, e.zero])
+}
+
+// A log is read back: the table after it comes by value, with how many records were applied and what stopped it.
+#[no_mangle]
+pub extern "C" fn locktable_replay(log: &[u8]) -> Replayed
+    ensures { λ r. ⌜ Gives (now (log .entry)) r ⌝ }
+{
+    replay(log)
 }
