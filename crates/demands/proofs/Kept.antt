@@ -30,10 +30,10 @@ use Rattle.demands.proofs.TheCalls.{the-calls, demand-2-met}
 use Rattle.demands.proofs.LogCall.{the-log, log-stated}
 
 -- the records with an event that is accepted, and with one that is refused
-more-records : (c : Calls) (t : Table) (ks : List Call) (e : Record) → number-of c t ks e ≡ 0 → records c t (event e ∷ ks) ≡ records c t ks ++ (four-of e ∷ [])
+pub more-records : (c : Calls) (t : Table) (ks : List Call) (e : Record) → number-of c t ks e ≡ 0 → records c t (event e ∷ ks) ≡ records c t ks ++ (four-of e ∷ [])
 more-records c t ks e z = rw (eq-eqb (number-of c t ks e) 0 z) refl
 
-same-records : (c : Calls) (t : Table) (ks : List Call) (e : Record) → number-of c t ks e ≢ 0 → records c t (event e ∷ ks) ≡ records c t ks
+pub same-records : (c : Calls) (t : Table) (ks : List Call) (e : Record) → number-of c t ks e ≢ 0 → records c t (event e ∷ ks) ≡ records c t ks
 same-records c t ks e n = rw (ne-eqb (number-of c t ks e) 0 n) refl
 
 -- they are as many as the accepted events of the paper
@@ -44,7 +44,7 @@ many {c} {t} (refused {ks} {e = e} h n) = ap length (same-records c t ks e n) �
 many (asked h) = many h
 
 -- and of four bytes each
-fours : (c : Calls) (t : Table) (ks : List Call) → Any-calls ks → Fours (records c t ks)
+pub fours : (c : Calls) (t : Table) (ks : List Call) → Any-calls ks → Fours (records c t ks)
 fours c t [] any = tt
 fours c t (event e ∷ ks) any = go (eqb (number-of c t ks e) 0) (fours c t ks (any .1))
   where

@@ -20,6 +20,9 @@ pub mod TheCalls
 -- The log's call, and that every accepted event is kept.
 pub mod LogCall
 pub mod Kept
+-- The call that reads a log back.
+pub mod ReplayCall
+pub mod Replay
 -- That the demands speak of the calls' own contracts, and of what these take.
 pub mod Contracts
 pub mod Types

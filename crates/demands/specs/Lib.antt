@@ -14,3 +14,5 @@ pub mod Contracts
 pub mod Stated
 -- The log's call, and the kernel that keeps its accepted events in a log.
 pub mod Kept
+-- The call that reads a log back.
+pub mod Replay
