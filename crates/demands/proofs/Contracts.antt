@@ -1,4 +1,5 @@
--- What specs/Contracts says of the five calls on the table, and specs/Kept of the log's call, is what their contracts say: each asks nothing, and lets its caller learn just this. Assumes nothing.
+-- What specs/Contracts says of the five calls on the table, specs/Kept of the log's call and specs/Replay of the one that reads a log back, is what their contracts say: each asks nothing, and lets
+-- its caller learn just this. Assumes nothing.
 use Prim.Native.Nat.{ℕ}
 use mathlib.Core.Path.{_≡_, refl}
 use mathlib.Core.List.{List}
@@ -26,6 +27,9 @@ use Rattle.locktable.proofs.locktable_running as running
 use Rattle.locktable.proofs.locktable_thread as thread
 use Rattle.locktable.proofs.locktable_resource as resource
 use Rattle.locktable.proofs.locktable_log as log
+use Rattle.locktable.proofs.locktable_replay as replay
+use Rattle.replay.specs.declared.Replayed.{Replayed}
+use Rattle.replay.specs.Read.{Gives}
 use Rattle.demands.specs.Contracts.{Empty-says, Step-says, Running-says, Thread-says, Resource-says}
 use Rattle.demands.specs.Kept.{Log-says}
 
@@ -59,3 +63,7 @@ module _ {M : Type 1} (𝓤 : URA M) (H : Heap 𝓤) (A : Atoms 𝓤) (at-mem : 
   module _ (κ : Lft) (l : RefT (List ℕ)) where
     pub log-says : (n : ℕ) (e : Record) (r : ℕ) (after : List ℕ) → Says (log.clauses 𝓤 H A at-mem run (κ, tt) (l, (n, (e, tt)))) tt r (atExit log.ended (κ, tt) (l, (n, (e, tt))) (after, (tt, (tt, tt)))) (Log-says (l .now) n e (record { number = r; log = after }))
     log-says n e r after = (refl, refl)
+
+    -- a log is read back, and gives r; the log, which is lent as `&`, holds what it held
+    pub replay-says : (r : Replayed) → Says (replay.clauses 𝓤 H A at-mem run (κ, tt) (l, tt)) tt r (atExit replay.ended (κ, tt) (l, tt) (tt, tt)) (Gives (l .now) r)
+    replay-says r = (refl, refl)

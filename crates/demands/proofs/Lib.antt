@@ -21,8 +21,8 @@ pub mod TheCalls
 pub mod LogCall
 pub mod Kept
 -- The call that reads a log back.
-pub mod ReplayCall
 pub mod Replay
+pub mod ReplayCall
 -- That the demands speak of the calls' own contracts, and of what these take.
 pub mod Contracts
 pub mod Types

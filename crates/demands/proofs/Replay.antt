@@ -39,7 +39,7 @@ use Rattle.demands.proofs.Demand2.{demand-2}
 use Rattle.demands.proofs.Kept.{more-records, same-records, fours, every-event-kept}
 
 -- a record's four bytes are any record
-any-event : (r : List ℕ) → Four r → Any-record (event-in r)
+pub any-event : (r : List ℕ) → Four r → Any-record (event-in r)
 any-event r f = record { kind = omega (arith, f .bytes 0); thread = omega (arith, f .bytes 1); argument = omega (arith, f .bytes 2); zero = omega (arith, f .bytes 3) }
 
 -- and the record that they say has these bytes

@@ -14,7 +14,7 @@ use denote.Array as value
 use denote.Array.{each}
 use denote.Laws.{Is}
 use denote.Ref.{RefT, MutRef, ShrRef}
-use denote.Slice.{MutSlice, slice-vals}
+use denote.Slice.{MutSlice, ShrSlice, slice-vals}
 use denote.Signature.{typesAt}
 use denote.Struct.Laws.{vals, owes, owed}
 use Rattle.table.specs.declared.Table.{Table}
@@ -31,6 +31,7 @@ use Rattle.locktable.proofs.locktable_running as running
 use Rattle.locktable.proofs.locktable_thread as thread
 use Rattle.locktable.proofs.locktable_resource as resource
 use Rattle.locktable.proofs.locktable_log as log
+use Rattle.locktable.proofs.locktable_replay as replay
 use Rattle.log.specs.Bytes.{Bytes}
 use Rattle.demands.specs.Memory.{Array, Any-table, Any-record}
 use Rattle.demands.specs.Kept.{Any-log}
@@ -116,3 +117,10 @@ log-takes κ = refl
 -- Of bytes, each of them a `UInt w8`, the type of the log holds those that are any log: it says of their number that it is below 2 ^ 63.
 pub log-is : (κ : Lft) (l : RefT (List ℕ)) → Bytes (l .now) → Is (MutSlice (named 0) κ (UInt w8)) l (slice-vals l) ↔ Any-log (l .now)
 log-is κ l bytes = ((λ p. record { bytes = bytes; fits = omega (arith, p .0 .1 .1) }), λ a. let fits = a .fits in ((refl, (omega arith, omega arith)), (tt, tt)))
+
+-- The call that reads a log back is given a borrow of bytes, as `&`, and its type holds the same.
+pub replay-takes : (κ : Lft) → typesAt (replay.signature .params) (κ, tt) ≡ ShrSlice (named 0) κ (UInt w8) ∷ []
+replay-takes κ = refl
+
+pub read-log-is : (κ : Lft) (l : RefT (List ℕ)) → Bytes (l .now) → Is (ShrSlice (named 0) κ (UInt w8)) l (slice-vals l) ↔ Any-log (l .now)
+read-log-is = log-is
