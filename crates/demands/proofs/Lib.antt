@@ -30,6 +30,7 @@ pub mod Types
 pub mod Unique
 pub mod Wrong
 pub mod KeptUsed
+pub mod ReplayUsed
 pub mod OneTable
 pub mod OneNumber
 pub mod AnyTable

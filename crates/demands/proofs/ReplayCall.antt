@@ -34,11 +34,12 @@ use Rattle.demands.specs.Fixed as fixed
 use Rattle.demands.specs.Fixed.{Step-fixed}
 use Rattle.demands.specs.Runs.{table-after}
 use Rattle.demands.specs.Kept.{Any-log}
-use Rattle.demands.specs.Replay.{Replay-call, Replay-stated, Replay-fixed, stepped, Read-told}
+use Rattle.demands.specs.Replay.{Replay-call, Replay-stated, Replay-fixed, Read-told, Read-back}
 use Rattle.demands.proofs.Demand1.{left-of}
 use Rattle.demands.proofs.TheCalls.{the-calls, as-stated, demand-1-met, demand-2-met}
+use Rattle.demands.proofs.LogCall.{the-log, log-stated}
 use Rattle.demands.proofs.Wrong.{creates, memory, any, first-accepted}
-use Rattle.demands.proofs.Replay.{any-event, read-told}
+use Rattle.demands.proofs.Replay.{any-event, read-told, read-back}
 
 -- No two results satisfy the contract for one log,
 pub replay-one : (log : List ℕ) (a b : Replayed) → Gives log a → Gives log b → a ≡ b
@@ -143,3 +144,7 @@ not-blank p blank is = absurd (omega (arith, its-clock p is, ap (λ (t : Table).
 -- nor one that doesn't look at a block's check.
 pub not-unchecked : (p : Replay-call) → ((log : List ℕ) (v : ℕ) → p (set log 508 v) .number ≡ p log .number) → ¬ Replay-stated p
 not-unchecked p unchecked is = absurd (omega (arith, damaged p is, unchecked (log-of (one p is)) (other-byte p is), ap (λ (r : Replayed). r .number) (one-read p is)))
+
+-- What is kept is read back by the functions that the contracts name, with no premise at all.
+pub read-back-met : Read-back the-calls the-log the-replay
+read-back-met = read-back the-calls the-log the-replay as-stated log-stated replay-stated
