@@ -104,4 +104,4 @@ module _ (c : Calls) (k : Log-call) (p : Replay-call) (is : As-stated c) (writes
       rw front (gives-one (reads (log-of rs) lent) here)
 
   pub read-back : Read-back c k p
-  read-back = record { written = written; told = λ t log held holds. read-told c is t held log (p log) holds (reads log holds) }
+  read-back = record { written = λ t fresh ks held holds any room. written t fresh ks held holds any (omega (arith, room)); told = λ t log held holds. read-told c is t held log (p log) holds (reads log holds) }
