@@ -40,6 +40,14 @@ abbrev pub line : ℕ → ℕ → ℕ → ℕ → List ℕ
 line n code run count =
     decimal n ++ space ++ decimal code ++ space ++ dash-or run ++ space ++ decimal count ++ newline
 
+-- a last line: a word, a single space and a number
+abbrev pub last-line : String → ℕ → List ℕ
+last-line word n = bytes word ++ space ++ decimal n ++ newline
+
 -- bytes left over give a last line `tail` and how many
 abbrev pub tail-line : ℕ → List ℕ
-tail-line k = bytes "tail" ++ space ++ decimal k ++ newline
+tail-line k = last-line "tail" k
+
+-- a refusal that stops the reading of a log gives a last line `stop` and its number
+abbrev pub stop-line : ℕ → List ℕ
+stop-line n = last-line "stop" n

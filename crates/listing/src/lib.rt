@@ -2,7 +2,7 @@
 ghost use mathlib.Core.List.{[], _∷_, _++_};
 ghost use Prim.Native.Nat.{_+_, _≤_};
 ghost use lib.ListN.{length};
-ghost use Rattle.listing.specs.Text.{decimal, dash-or, space, header, line, tail-line};
+ghost use Rattle.listing.specs.Text.{decimal, dash-or, space, newline, header, line, tail-line, stop-line};
 ghost use Rattle.listing.specs.Writing.{Says, Blank, Writes};
 use table::Table;
 
@@ -93,8 +93,22 @@ pub fn line(n: u64, code: u8, run: u8, count: u8) -> Text
     answered.byte(b'\n')
 }
 
+// A word and a number. A number has a column of four bytes, and the newline is one more.
+fn last_line(word: &[u8], n: u8) -> Text
+    requires { ⌜ length (now word) + 5 ≤ 48 ⌝ }
+    ensures { λ r. ⌜ Says r (now (word .entry) ++ space ++ decimal n ++ newline) ⌝ }
+{
+    Text::blank().word(word).column(n).byte(b'\n')
+}
+
 pub fn tail_line(k: u8) -> Text
     ensures { λ r. ⌜ Says r (tail-line k) ⌝ }
 {
-    Text::blank().word(b"tail").column(k).byte(b'\n')
+    last_line(b"tail", k)
+}
+
+pub fn stop_line(n: u8) -> Text
+    ensures { λ r. ⌜ Says r (stop-line n) ⌝ }
+{
+    last_line(b"stop", n)
 }
