@@ -69,7 +69,7 @@ impl Bench {
 }
 
 // The text of no bytes.
-fn nothing() -> Text
+pub fn nothing() -> Text
     ensures { λ r. ⌜ Says r [] ⌝ }
 {
     Text {

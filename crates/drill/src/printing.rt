@@ -15,10 +15,10 @@ use streams::output_failed;
 use streams::write_all;
 
 // The bench after the first `used` bytes of a part of the input, and whether their lines are all written.
-struct Printed {
-    bench: Bench,
-    used: usize,
-    well: bool,
+pub struct Printed {
+    pub bench: Bench,
+    pub used: usize,
+    pub well: bool,
 }
 
 // The bench after a read, whether to go on, and whether the input came to its end and all lines are written.
@@ -103,7 +103,7 @@ fn print_start(s: Bench, input: &[u8]) -> Printed
 }
 
 // Prints the lines of all of a part of the input: it goes on from where it stopped.
-fn print_part(s: Bench, input: &[u8]) -> Printed
+pub fn print_part(s: Bench, input: &[u8]) -> Printed
     ensures { λ r. ⌜ (r .well ≡ true → r .bench ≡ after s (now (input .entry))) ⌝ }
 {
     let mut bench = s;
