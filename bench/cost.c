@@ -19,6 +19,8 @@ static const char usage[] =
     "cost made EVENTS       one event on each of many made tables with up to 32 live threads, most of them waiting\n"
     "cost log FROM TO       the log: in some blocks, the calls that find FROM records there, FROM + 1 and so on to TO, at most 124\n"
     "cost refused N         the log: in these blocks, the calls that find N records there, one byte of them changed\n"
+    "cost replay N HOW      a log of one full block, its records a busy history with N live threads from the empty table on: `whole` reads it\n"
+    "                       back, `changed` after one byte of its records was changed, `stepped` makes the steps instead\n"
     "cost terminal WHAT     on the table of a shipment that has just started: `start` starts it anew; `added` is a spare task without a\n"
     "                       priority, `added_at` one with it, `created` the same by a step, `outside` is refused with 17, `live` with 6\n"
     "N, EVENTS and GAP are at least 1.\n";
@@ -35,6 +37,7 @@ struct side {
     struct locktable_thread_answer (*thread)(const struct locktable *, uint8_t);
     struct locktable_resource_answer (*resource)(const struct locktable *, uint8_t);
     uint8_t (*log)(uint8_t *, size_t, uint32_t, struct locktable_record);
+    struct locktable_replayed (*replay)(const uint8_t *, size_t);
     struct locktable_answer (*start)(struct locktable *);
     struct locktable_answer (*spare)(struct locktable *, uint8_t);
     struct locktable_answer (*spare_at)(struct locktable *, uint8_t, uint8_t);
@@ -56,7 +59,8 @@ struct side {
       .steps = { NAME##_create, NAME##_exit, NAME##_set, NAME##_p_free,                                                    \
                  NAME##_p_taken, NAME##_v_last, NAME##_v_heir, NAME##_refused },                                           \
       .empty = CALLS##_empty, .running = CALLS##_running, .thread = CALLS##_thread, .resource = CALLS##_resource,          \
-      .log = CALLS##_log, .start = TERMINAL##_start, .spare = TERMINAL##_spare, .spare_at = TERMINAL##_spare_at }
+      .log = CALLS##_log, .replay = CALLS##_replay,                                                                        \
+      .start = TERMINAL##_start, .spare = TERMINAL##_spare, .spare_at = TERMINAL##_spare_at }
 
 STEPS(ours, locktable)
 STEPS(fast, fast)
@@ -153,10 +157,15 @@ static struct locktable_record draw_accepted(struct dice *d, const struct mood *
     return e;
 }
 
+static struct mood busy(unsigned threads)
+{
+    return (struct mood){ threads, threads < LOCKTABLE_RESOURCES ? threads : LOCKTABLE_RESOURCES, 256, 0 };
+}
+
 /* Threads are live first, then the events count: the Creates on the way there are few. */
 static int live(unsigned threads, unsigned events)
 {
-    struct mood m = { threads, threads < LOCKTABLE_RESOURCES ? threads : LOCKTABLE_RESOURCES, 256, 0 };
+    struct mood m = busy(threads);
     struct dice d = { mix(threads) };
     for (unsigned i = 0; i < threads; i++) {
         struct locktable_record e = draw_busy_record(&d, &m, ours, runs);
@@ -319,6 +328,57 @@ static int log_refused(unsigned records)
     return 0;
 }
 
+/* A busy history, as long as a block: its records in all logs. The tables are empty afterwards. */
+static void write_block(unsigned threads)
+{
+    struct mood m = busy(threads);
+    struct dice d = { mix(threads) };
+    for (uint32_t n = 0; n < LOCKTABLE_BLOCK_RECORDS; n++) {
+        struct locktable_record e = draw_accepted(&d, &m);
+        runs = model_step(ours, e).running;
+        for (int i = 0; i < SIDES; i++)
+            model_log(logs[i], sizeof logs[i], n, e);
+    }
+    model_empty(ours);
+    share();
+    runs = LOCKTABLE_NOBODY;
+}
+
+/* The block read back by all sides: the number and the records that are to come of it. */
+static int read_block(uint8_t number, uint16_t records)
+{
+    for (int i = 0; i < SIDES; i++) {
+        _Alignas(64) struct locktable_replayed r = sides[i].replay(logs[i], LOCKTABLE_BLOCK);
+        sides[i].table = r.table;
+        if (r.number != number || r.records != records || memcmp(ours, &sides[i].table, sizeof *ours) != 0) {
+            fprintf(stderr, "cost: %s does not read the log as it should\n", sides[i].name);
+            return 1;
+        }
+    }
+    calls++;
+    return 0;
+}
+
+static int replay(unsigned threads, const char *how)
+{
+    write_block(threads);
+    if (strcmp(how, "whole") == 0)
+        return read_block(LOCKTABLE_ACCEPTED, LOCKTABLE_BLOCK_RECORDS);
+    if (strcmp(how, "changed") == 0) {
+        for (int i = 0; i < SIDES; i++)
+            logs[i][LOCKTABLE_BLOCK / 2]++;
+        return read_block(LOCKTABLE_LOG_NOT_AS_SAID, 0);
+    }
+    for (const uint8_t *at = logs[0] + 8; at < logs[0] + 8 + 4 * LOCKTABLE_BLOCK_RECORDS; at += 4)
+        act((struct locktable_record){ at[0], at[1], at[2], at[3] });
+    return 0;
+}
+
+static bool is_way_to_read(const char *word)
+{
+    return strcmp(word, "whole") == 0 || strcmp(word, "changed") == 0 || strcmp(word, "stepped") == 0;
+}
+
 /* A call on the table of a shipment, for the task of this id. */
 typedef struct locktable_answer task_call(struct side *s, uint8_t id);
 enum { PRIORITY = 40 };
@@ -418,6 +478,8 @@ static int history(int words, char **word)
         return log_blocks((unsigned)atoi(word[1]), (unsigned)atoi(word[2]));
     if (words == 2 && strcmp(name, "refused") == 0 && n > 0 && n <= LAST_PLACE)
         return log_refused(n);
+    if (words == 3 && strcmp(name, "replay") == 0 && n > 0 && n <= LOCKTABLE_THREADS && is_way_to_read(word[2]))
+        return replay(n, word[2]);
     if (words == 2 && strcmp(name, "terminal") == 0 && task_named(word[1]) != 0)
         return terminal(task_named(word[1]));
     fputs(usage, stderr);

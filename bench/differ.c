@@ -2,7 +2,8 @@
    call the answers and all bytes of the tables and logs must be equal.
      differ [--seed N] [--tests N] [--only N]       tests 1 to N of a seed (6,000 of a fresh one), or only test N
      differ --drill model|fast|best|library FILE..  the listing of each file of records, by one side
-     differ --keep model|fast|best|library FILE..   the log of the accepted ones of each, by one side */
+     differ --keep model|fast|best|library FILE..   the log of the accepted ones of each, by one side
+     differ --read model|fast|best|library FILE..   the listing of each log, by one side */
 #include <errno.h>
 #include <stdio.h>
 #include <stdlib.h>
@@ -13,15 +14,31 @@
 
 /* Kinds: 0, the five of the header, and all beyond. A count is at most the number of resources: a chain has so many holders. */
 enum { NUMBERS = LOCKTABLE_STILL_HOLDS + 1, OTHER_KINDS = LOCKTABLE_V + 1, KINDS, COUNTS = LOCKTABLE_RESOURCES + 1, ANSWER = 8 };
-enum call { STEP, EMPTY, RUNNING, THREAD, RESOURCE, START, SPARE, SPARE_AT, LOG, CALLS };
+enum call { STEP, EMPTY, RUNNING, THREAD, RESOURCE, START, SPARE, SPARE_AT, LOG, REPLAY, CALLS };
 static const char *const call_names[CALLS] = {
-    "step", "empty", "running", "thread", "resource", "terminal_start", "terminal_spare", "terminal_spare_at", "log",
+    "step", "empty", "running", "thread", "resource", "terminal_start", "terminal_spare", "terminal_spare_at", "log", "replay",
 };
-/* What a log call comes to; 0 stands here twice. And the rules of a block that goes on: a bit each in the model's set. */
+/* What a log call comes to; 0 stands here twice. And the rules of a block that goes on, or is read back: a bit each in the model's set. */
 enum outcome { FRESH, GOES_ON, RUN_OUT, TOO_SHORT, NOT_AS_SAID, OUTCOMES };
 static const char *const outcome_names[OUTCOMES] = { "0 fresh", "0 going on", "5", "13", "14" };
 enum { RULES = 5 };
 static const char *const rule_names[RULES] = { "number", "count", "spare bytes", "unused records", "check" };
+/* What a log that is read back comes to: how it ends if it is read fully, why it is refused and in which block; and where a refusal goes
+   before others that would come later. Which number an event has is counted apart. */
+enum read {
+    NO_BYTES, FULL_LAST, SHORT_LAST, NO_MULTIPLE, TOO_LONG, NOT_GOOD_FIRST, NOT_GOOD_LATER, NOT_FULL_FIRST, NOT_FULL_LATER,
+    FIRST_OF_FIRST, INNER_OF_FIRST, LAST_OF_FIRST, FIRST_OF_LATER, INNER_OF_LATER, LAST_OF_LATER,
+    LENGTH_FIRST, NOT_GOOD_BEFORE_NOT_FULL, NOT_FULL_BEFORE_EVENT, EVENT_BEFORE_NOT_GOOD, READS
+};
+static const char *const read_names[READS] = {
+    "0 for no bytes", "0 with a full last block", "0 with a short last block", "15 for no multiple of 512", "15 for more than 525 blocks",
+    "14 in the first block", "14 in a later block", "16 in the first block", "16 in a later block",
+    "an event's number at the first block's first record", "an event's number within the first block",
+    "an event's number at the first block's last record", "an event's number at a later block's first record",
+    "an event's number within a later block", "an event's number at a later block's last record",
+    "15 where the first block isn't good", "14 where 16 would come too", "16 where an event would be refused",
+    "an event's number where the next block isn't good",
+};
 /* What can be wrong with the totals of a table: a bit each in the model's set. */
 enum { WRONGS = 3 };
 static const char *const wrong_names[WRONGS] = { "out of balance", "above the clock", "not zero in a dead slot" };
@@ -47,13 +64,14 @@ struct side {
     struct locktable_thread_answer (*thread)(const struct locktable *, uint8_t);
     struct locktable_resource_answer (*resource)(const struct locktable *, uint8_t);
     uint8_t (*log)(uint8_t *, size_t, uint32_t, struct locktable_record);
+    struct locktable_replayed (*replay)(const uint8_t *, size_t);
     struct locktable_answer (*start)(struct locktable *);
     struct locktable_answer (*spare)(struct locktable *, uint8_t);
     struct locktable_answer (*spare_at)(struct locktable *, uint8_t, uint8_t);
 };
 
 #define SIDE(NAME, CALLS, TERMINAL)                                                                                        \
-    { NAME, CALLS##_step, CALLS##_empty, CALLS##_running, CALLS##_thread, CALLS##_resource, CALLS##_log,                   \
+    { NAME, CALLS##_step, CALLS##_empty, CALLS##_running, CALLS##_thread, CALLS##_resource, CALLS##_log, CALLS##_replay,   \
       TERMINAL##_start, TERMINAL##_spare, TERMINAL##_spare_at }
 
 /* The model is first: it decides. */
@@ -70,6 +88,7 @@ static struct {
     unsigned long long calls[CALLS], steps[KINDS][NUMBERS], counts[COUNTS], damaged[2], broken[2], made[2]; /* unsound, sound */
     unsigned long long wrong_alone[WRONGS], at_clock; /* tables unsound by one wrong of totals, sound with a total equal to the clock */
     unsigned long long outcomes[OUTCOMES], alone[RULES], several, places[LOCKTABLE_BLOCK_RECORDS]; /* of log calls */
+    unsigned long long reads[READS], read_alone[RULES], read_events[NUMBERS]; /* of logs read back */
     unsigned long long starts[STARTS], spares[2][SPARES]; /* without a priority, with one */
     unsigned long long circles[LOCKTABLE_RESOURCES + 1], led_back[LOCKTABLE_RESOURCES + 1]; /* by their holders */
     unsigned long long carried[LOCKTABLE_RESOURCES], runs_on, by_time; /* of V: note_heir */
@@ -583,7 +602,170 @@ static void logs(struct dice *d)
     }
 }
 
-/* Test number n: one history, with damaged tables on the way; then noise; then a log. */
+/* Logs that are read back lie in `given`, at any address, with bytes around them. All sides read the same one, and `rooms[0]` keeps what it
+   was. */
+static bool log_stays(void) { return memcmp(given, rooms[0], in_use) == 0; }
+
+static bool same_reading(const struct locktable_replayed *a, const struct locktable_replayed *b)
+{
+    return a->number == b->number && a->records == b->records && memcmp(&a->table, &b->table, sizeof a->table) == 0;
+}
+
+static void print_reading(const char *name, const struct locktable_replayed *r)
+{
+    printf("  %-8s answers %u after %u records\n", name, r->number, r->records);
+}
+
+/* The block shown is the one at which the model stopped. */
+_Noreturn static void fail_reading(const struct side *s, const struct locktable_replayed *want, const struct locktable_replayed *got,
+                                   const uint8_t *log, size_t size)
+{
+    const uint8_t *a = (const uint8_t *)&want->table, *b = (const uint8_t *)&got->table;
+    size_t block = want->records / LOCKTABLE_BLOCK_RECORDS * LOCKTABLE_BLOCK;
+    printf("FAILED: %s %s. seed %llu, test %llu, log read %llu\n", s->name,
+           log_stays() ? "differs from the model" : "writes where it should only read", run.seed, run.test, run.event);
+    printf("  call replay, size %zu\n", size);
+    print_reading("model", want);
+    print_reading(s->name, got);
+    for (size_t i = 0; i < sizeof want->table; i++)
+        if (a[i] != b[i])
+            printf("  byte %zu of the table: model %u, %s %u\n", i, a[i], s->name, b[i]);
+    if (block + LOCKTABLE_BLOCK <= size)
+        print_bytes("the block at which the model stops:", log + block, LOCKTABLE_BLOCK);
+    if (run.test > 0)
+        printf("  repeat it with bench/run --seed %llu --only %llu\n", run.seed, run.test);
+    exit(1);
+}
+
+static unsigned count_of(const uint8_t *block) { return block[4] + 256u * block[5]; }
+
+static struct locktable_record record_at(const uint8_t *log, uint32_t n)
+{
+    const uint8_t *at = log + LOCKTABLE_BLOCK * (n / LOCKTABLE_BLOCK_RECORDS) + 8 + 4 * (n % LOCKTABLE_BLOCK_RECORDS);
+    return (struct locktable_record){ at[0], at[1], at[2], at[3] };
+}
+
+static bool good_at(const uint8_t *log, size_t blocks, size_t place)
+{
+    return place < blocks && model_broken_goodness(log + LOCKTABLE_BLOCK * place, (uint32_t)place) == 0;
+}
+
+/* Counts why a block was refused as a whole, and what it was refused before. */
+static void note_block(const struct locktable_replayed *r, const uint8_t *log, size_t blocks)
+{
+    size_t place = r->records / LOCKTABLE_BLOCK_RECORDS;
+    const uint8_t *block = log + LOCKTABLE_BLOCK * place;
+    unsigned broken = model_broken_goodness(block, (uint32_t)place);
+    struct locktable t = r->table;
+    if (broken == 0) {
+        run.reads[place == 0 ? NOT_FULL_FIRST : NOT_FULL_LATER]++;
+        run.reads[NOT_FULL_BEFORE_EVENT] += model_step(&t, record_at(log, r->records)).number != LOCKTABLE_ACCEPTED;
+        return;
+    }
+    run.reads[place == 0 ? NOT_GOOD_FIRST : NOT_GOOD_LATER]++;
+    run.reads[NOT_GOOD_BEFORE_NOT_FULL] += place + 1 < blocks && count_of(block) < LOCKTABLE_BLOCK_RECORDS;
+    for (int i = 0; i < RULES; i++)
+        run.read_alone[i] += broken == 1u << i;
+}
+
+/* Counts where an event was refused. */
+static void note_event(const struct locktable_replayed *r, const uint8_t *log, size_t blocks)
+{
+    size_t place = r->records / LOCKTABLE_BLOCK_RECORDS;
+    unsigned at = r->records % LOCKTABLE_BLOCK_RECORDS, last = count_of(log + LOCKTABLE_BLOCK * place) - 1;
+    enum read first = place == 0 ? FIRST_OF_FIRST : FIRST_OF_LATER, inner = place == 0 ? INNER_OF_FIRST : INNER_OF_LATER;
+    run.read_events[r->number]++;
+    run.reads[first] += at == 0;
+    run.reads[inner] += at > 0 && at < last;
+    run.reads[place == 0 ? LAST_OF_FIRST : LAST_OF_LATER] += at == last;
+    run.reads[EVENT_BEFORE_NOT_GOOD] += place + 1 < blocks && !good_at(log, blocks, place + 1);
+}
+
+/* Counts what came up. */
+static void note_reading(const struct locktable_replayed *r, const uint8_t *log, size_t size)
+{
+    size_t blocks = size / LOCKTABLE_BLOCK;
+    run.calls[REPLAY]++;
+    switch (r->number) {
+    case LOCKTABLE_ACCEPTED:
+        run.reads[size == 0 ? NO_BYTES : r->records % LOCKTABLE_BLOCK_RECORDS == 0 ? FULL_LAST : SHORT_LAST]++;
+        return;
+    case LOCKTABLE_LOG_LENGTH:
+        run.reads[size > LOCKTABLE_LOG_SIZE ? TOO_LONG : NO_MULTIPLE]++;
+        run.reads[LENGTH_FIRST] += blocks > 0 && !good_at(log, blocks, 0);
+        return;
+    case LOCKTABLE_LOG_NOT_AS_SAID: case LOCKTABLE_BLOCK_NOT_FULL: note_block(r, log, blocks); return;
+    default: note_event(r, log, blocks); return;
+    }
+}
+
+/* All sides on the log that begins there in `given`. */
+static struct locktable_replayed compare_reading(size_t begins, size_t size)
+{
+    const uint8_t *log = given + begins;
+    run.event++;
+    in_use = begins + size + EDGE;
+    memcpy(rooms[0], given, in_use);
+    struct locktable_replayed want = sides[0].replay(log, size);
+    for (int i = 0; i < SIDES; i++) {
+        struct locktable_replayed got = i == 0 ? want : sides[i].replay(log, size);
+        if (!log_stays() || !same_reading(&want, &got))
+            fail_reading(&sides[i], &want, &got, log, size);
+    }
+    note_reading(&want, log, size);
+    return want;
+}
+
+/* A log as it was written, and then harmed ones, every fourth of them twice. */
+static void readings(struct dice *d)
+{
+    enum { ROOM_FOR_A_LOG = 8 * LOCKTABLE_BLOCK };
+    static uint8_t card[ROOM_FOR_A_LOG];
+    struct drawn_log drawn;
+    size_t begins = 1 + roll(d, EDGE), size;
+    run.event = 0;
+    draw_bytes(d, card, sizeof card);
+    draw_log(d, card, &drawn);
+    for (unsigned left = 1 + roll(d, 8), harms = 0; left > 0; left--, harms = roll(d, 4) == 0 ? 2 : 1) {
+        size = (size_t)LOCKTABLE_LOG_BLOCKS(drawn.records) * LOCKTABLE_BLOCK;
+        memcpy(given + begins, card, sizeof card);
+        for (unsigned i = 0; i < harms; i++)
+            size = harm_log(d, given + begins, &drawn, size);
+        compare_reading(begins, size);
+    }
+}
+
+/* A record of the longest log: a thread that takes a resource, gives it back, and sets itself, again and again. */
+static struct locktable_record long_record(uint32_t n)
+{
+    static const uint8_t kinds[] = { LOCKTABLE_SET, LOCKTABLE_P, LOCKTABLE_V };
+    return (struct locktable_record){ n == 0 ? LOCKTABLE_CREATE : kinds[n % 3], 3, (uint8_t)(n / 3 % LOCKTABLE_RESOURCES), 0 };
+}
+
+/* The log of 65,535 records, and the same with one more, which the log's call would not take: only that is refused with 5. No seed is
+   needed to repeat this, since every run begins with it. */
+static void longest_readings(void)
+{
+    uint8_t *last = given + LOCKTABLE_LOG_SIZE - LOCKTABLE_BLOCK + EDGE;
+    unsigned records = LOCKTABLE_EVENTS % LOCKTABLE_BLOCK_RECORDS;
+    run.event = 0;
+    for (uint32_t n = 0; n < LOCKTABLE_EVENTS; n++)
+        model_log(given + EDGE, LOCKTABLE_LOG_SIZE, n, long_record(n));
+    struct locktable_replayed a = compare_reading(EDGE, LOCKTABLE_LOG_SIZE);
+    struct locktable_record one_more = long_record(LOCKTABLE_EVENTS);
+    memcpy(last + 8 + 4 * records, &one_more, sizeof one_more);
+    last[4]++;
+    uint32_t check = model_check(last);
+    memcpy(last + LOCKTABLE_BLOCK - sizeof check, &check, sizeof check);
+    struct locktable_replayed b = compare_reading(EDGE, LOCKTABLE_LOG_SIZE);
+    if (a.number == LOCKTABLE_ACCEPTED && a.records == LOCKTABLE_EVENTS && b.number == LOCKTABLE_CLOCK_RUN_OUT)
+        return;
+    printf("FAILED: the longest log is answered with %u, and with one record more with %u\n", a.number, b.number);
+    exit(1);
+}
+
+/* Test number n: one history, with damaged tables on the way; then noise; then a log; and every eighth time logs that are read back, since
+   the model takes its time for them. */
 static void test(unsigned long long n)
 {
     struct dice d = { seed_of(n) };
@@ -597,6 +779,8 @@ static void test(unsigned long long n)
     fill_with_noise(&d, &t);
     compare_lone(&d, &m, t);
     logs(&d);
+    if (roll(&d, 8) == 0)
+        readings(&d);
 }
 
 static void print_terminal_totals(void)
@@ -622,6 +806,20 @@ static void print_log_totals(void)
     for (int i = 0; i < LOCKTABLE_BLOCK_RECORDS; i++)
         places += run.places[i] > 0;
     printf("places of a block where a record was accepted: %u of %d\n", places, LOCKTABLE_BLOCK_RECORDS);
+}
+
+static void print_reading_totals(void)
+{
+    printf("%-52s %10s\n", "logs read back by what came of them", "");
+    for (int i = 0; i < READS; i++)
+        printf("%-52s %10llu\n", read_names[i], run.reads[i]);
+    printf("events refused in them, by number, from 0:");
+    for (int i = 0; i < NUMBERS; i++)
+        printf(" %llu", run.read_events[i]);
+    printf("\nblocks in them that aren't good because of one thing:");
+    for (int i = 0; i < RULES; i++)
+        printf("%s %s %llu", i > 0 ? "," : "", rule_names[i], run.read_alone[i]);
+    printf("\n");
 }
 
 static void print_totals(void)
@@ -662,6 +860,7 @@ static void print_totals(void)
     printf("; the releaser runs on: %llu, the current time decides: %llu\n", run.runs_on, run.by_time);
     print_terminal_totals();
     print_log_totals();
+    print_reading_totals();
 }
 
 /* Of the log each answer, each thing that a block can be refused for, alone, and each place in a block. */
@@ -677,6 +876,22 @@ static bool all_met_in_logs(void)
     for (int i = 0; i < LOCKTABLE_BLOCK_RECORDS; i++)
         if (run.places[i] == 0)
             met = false, printf("FAILED: no record was accepted at place %d of a block\n", i);
+    return met;
+}
+
+/* Of logs read back each way to end, each number of an event but 1, which never comes, and each thing that a block can lack, alone. */
+static bool all_met_in_readings(void)
+{
+    bool met = true;
+    for (int i = 0; i < READS; i++)
+        if (run.reads[i] == 0)
+            met = false, printf("FAILED: no log that was read back came to %s\n", read_names[i]);
+    for (int i = LOCKTABLE_NO_SUCH_KIND; i < NUMBERS; i++)
+        if (run.read_events[i] == 0)
+            met = false, printf("FAILED: no log that was read back stopped at an event with %d\n", i);
+    for (int i = 0; i < RULES; i++)
+        if (run.read_alone[i] == 0)
+            met = false, printf("FAILED: no block that was read back was refused because of its %s alone\n", rule_names[i]);
     return met;
 }
 
@@ -754,6 +969,7 @@ static bool all_met(void)
     met &= all_met_in_circles();
     met &= all_met_in_heirs();
     met &= all_met_in_terminal();
+    met &= all_met_in_readings();
     return all_met_in_logs() && met;
 }
 
@@ -762,6 +978,8 @@ static int tests(unsigned long long from, unsigned long long to)
     time_t last = time(0);
     printf("seed %llu, tests %llu to %llu\n", run.seed, from, to);
     fflush(stdout);
+    if (from != to)
+        longest_readings();
     for (unsigned long long n = from; n <= to; n++) {
         test(n);
         if (time(0) >= last + 5) {
@@ -774,6 +992,14 @@ static int tests(unsigned long long from, unsigned long long to)
         return 1;
     printf("all answers, all tables and all logs equal\n");
     return 0;
+}
+
+static void print_line(unsigned n, struct locktable_answer a)
+{
+    if (a.running < LOCKTABLE_NOBODY)
+        printf("%u %u %u %u\n", n, a.number, a.running, a.count);
+    else
+        printf("%u %u - %u\n", n, a.number, a.count);
 }
 
 /* The listing of lockdrill for one file, by one side. */
@@ -789,13 +1015,8 @@ static int drill(const struct side *s, const char *path)
     }
     s->empty(&t);
     printf("n code run count\n");
-    for (unsigned n = 1; (got = fread(b, 1, 4, f)) == 4; n++) {
-        struct locktable_answer a = s->step(&t, (struct locktable_record){ b[0], b[1], b[2], b[3] });
-        if (a.running < LOCKTABLE_NOBODY)
-            printf("%u %u %u %u\n", n, a.number, a.running, a.count);
-        else
-            printf("%u %u - %u\n", n, a.number, a.count);
-    }
+    for (unsigned n = 1; (got = fread(b, 1, 4, f)) == 4; n++)
+        print_line(n, s->step(&t, (struct locktable_record){ b[0], b[1], b[2], b[3] }));
     if (got > 0)
         printf("tail %zu\n", got);
     fclose(f);
@@ -826,7 +1047,44 @@ static int keep(const struct side *s, const char *path)
     return 0;
 }
 
-static int each(int (*does)(const struct side *, const char *), const char *name, char **paths)
+/* The listing of logread for one file, by one side: so many lines as its replay has applied records, by its step, which has to lead to the
+   same table. Longer logs than logread takes are answered as it answers them. */
+static int read_back(const struct side *s, const char *path)
+{
+    enum { MOST = 128 * LOCKTABLE_BLOCK };
+    static uint8_t log[MOST + 1];
+    FILE *f = fopen(path, "rb");
+    struct locktable stepped;
+    struct locktable_replayed r = { .number = LOCKTABLE_LOG_LENGTH };
+    if (f == 0) {
+        perror(path);
+        return 2;
+    }
+    size_t size = fread(log, 1, sizeof log, f);
+    fclose(f);
+    s->empty(&stepped);
+    if (size <= MOST)
+        r = s->replay(log, size);
+    printf("n code run count\n");
+    for (unsigned n = 1; n <= r.records; n++)
+        print_line(n, s->step(&stepped, record_at(log, n - 1)));
+    if (r.number != LOCKTABLE_ACCEPTED)
+        printf("stop %u\n", r.number);
+    if (memcmp(&r.table, &stepped, sizeof stepped) == 0)
+        return 0;
+    fprintf(stderr, "differ: the log %s leads to another table than its records do\n", path);
+    return 1;
+}
+
+/* What one side does with each file. */
+typedef int with_file(const struct side *s, const char *path);
+
+static with_file *by_one_side(const char *option)
+{
+    return strcmp(option, "--drill") == 0 ? drill : strcmp(option, "--keep") == 0 ? keep : strcmp(option, "--read") == 0 ? read_back : 0;
+}
+
+static int each(with_file *does, const char *name, char **paths)
 {
     for (int i = 0; i < SIDES; i++)
         if (strcmp(sides[i].name, name) == 0) {
@@ -856,7 +1114,7 @@ static unsigned long long number(char **words)
 
 static int usage(FILE *to, int status)
 {
-    fprintf(to, "differ [--seed N] [--tests N] [--only N]\ndiffer --drill|--keep model|fast|best|library FILE..\n");
+    fprintf(to, "differ [--seed N] [--tests N] [--only N]\ndiffer --drill|--keep|--read model|fast|best|library FILE..\n");
     return status;
 }
 
@@ -865,8 +1123,8 @@ int main(int argc, char **argv)
     unsigned long long from = 1, to = 6000;
     run.seed = (unsigned long long)time(0);
     for (int i = 1; i < argc; i++) {
-        if (strcmp(argv[i], "--drill") == 0 || strcmp(argv[i], "--keep") == 0)
-            return i + 1 < argc ? each(argv[i][2] == 'd' ? drill : keep, argv[i + 1], argv + i + 2) : usage(stderr, 2);
+        if (by_one_side(argv[i]) != 0)
+            return i + 1 < argc ? each(by_one_side(argv[i]), argv[i + 1], argv + i + 2) : usage(stderr, 2);
         if (strcmp(argv[i], "--seed") == 0)
             run.seed = number(argv + i++);
         else if (strcmp(argv[i], "--tests") == 0)

@@ -440,8 +440,8 @@ static unsigned draw_place(struct dice *d, unsigned records)
     case 1: return COUNT_AT;
     case 2: return COUNT_AT + 1;
     case 3: return SPARE_AT + roll(d, RECORDS_AT - SPARE_AT);
-    case 4: return RECORDS_AT + roll(d, end - RECORDS_AT);
-    case 5: return end + roll(d, CHECK_AT - end);
+    case 4: return records > 0 ? RECORDS_AT + roll(d, end - RECORDS_AT) : RECORDS_AT;
+    case 5: return end < CHECK_AT ? end + roll(d, CHECK_AT - end) : CHECK_AT;
     default: return CHECK_AT + roll(d, LOCKTABLE_BLOCK - CHECK_AT);
     }
 }
@@ -469,4 +469,166 @@ void damage_block(struct dice *d, uint8_t block[LOCKTABLE_BLOCK], unsigned recor
     }
     if (chance(d, 50))
         mend_check(block);
+}
+
+/* None to two records; one to three full blocks, or a record more or less; or any number up to that. */
+static uint32_t draw_records(struct dice *d)
+{
+    enum { MOST_BLOCKS = 3 };
+    uint32_t full = LOCKTABLE_BLOCK_RECORDS * (1 + roll(d, MOST_BLOCKS));
+    switch (roll(d, 6)) {
+    case 0: return roll(d, 3);
+    case 1: return full - 1;
+    case 2: return full + 1;
+    case 3: return full;
+    default: return 1 + roll(d, MOST_BLOCKS * LOCKTABLE_BLOCK_RECORDS);
+    }
+}
+
+/* The place of a record in the log: any, the first of a block or the last one. */
+static uint32_t draw_place_in_log(struct dice *d, uint32_t records)
+{
+    uint32_t any = roll(d, records > 0 ? records : 1), first = any - any % LOCKTABLE_BLOCK_RECORDS;
+    uint32_t last = first + LOCKTABLE_BLOCK_RECORDS < records ? first + LOCKTABLE_BLOCK_RECORDS - 1 : records - 1;
+    switch (roll(d, 4)) {
+    case 0: return first;
+    case 1: return records > 0 ? last : 0;
+    default: return any;
+    }
+}
+
+void draw_log(struct dice *d, uint8_t *log, struct drawn_log *drawn)
+{
+    struct mood m = draw_mood(d);
+    struct locktable t;
+    unsigned running = LOCKTABLE_NOBODY;
+    m.junk_percent = 0;
+    drawn->records = draw_records(d);
+    drawn->place = draw_place_in_log(d, drawn->records);
+    model_empty(&t);
+    for (;;) {
+        if (t.clock == drawn->place)
+            drawn->table = t, drawn->running = running;
+        if (t.clock == drawn->records)
+            return;
+        struct locktable_record e = draw_record(d, &m, &t, running);
+        struct locktable_answer a = model_step(&t, e);
+        running = a.running;
+        if (a.number == LOCKTABLE_ACCEPTED)
+            model_log(log, LOCKTABLE_LOG_SIZE, t.clock - 1u, e);
+    }
+}
+
+static unsigned records_of(const uint8_t block[LOCKTABLE_BLOCK])
+{
+    unsigned count = block[4] + 256u * block[5];
+    return count < LOCKTABLE_BLOCK_RECORDS ? count : LOCKTABLE_BLOCK_RECORDS;
+}
+
+static void put_number(uint8_t block[LOCKTABLE_BLOCK], size_t number)
+{
+    uint32_t low_first = (uint32_t)number;
+    memcpy(block, &low_first, sizeof low_first);
+    mend_check(block);
+}
+
+/* Leaves fewer records in a block than it has, be it none. In itself it stays good if there are any. At times the first would be refused. */
+static void shorten_block(struct dice *d, uint8_t block[LOCKTABLE_BLOCK])
+{
+    unsigned records = records_of(block), left = roll(d, records > 0 ? records : 1);
+    memset(block + 8 + 4 * left, 0, 4 * (LOCKTABLE_BLOCK_RECORDS - left));
+    block[4] = (uint8_t)left;
+    block[5] = 0;
+    if (chance(d, 30))
+        block[8] = 0;
+    mend_check(block);
+}
+
+/* Every second time the two get the numbers of their new places, so that only their records give it away. */
+static void exchange_blocks(struct dice *d, uint8_t *log, size_t one, size_t other)
+{
+    uint8_t kept[LOCKTABLE_BLOCK], *a = log + LOCKTABLE_BLOCK * one, *b = log + LOCKTABLE_BLOCK * other;
+    memcpy(kept, a, sizeof kept);
+    memmove(a, b, sizeof kept);
+    memcpy(b, kept, sizeof kept);
+    if (chance(d, 50)) {
+        put_number(a, one);
+        put_number(b, other);
+    }
+}
+
+/* The blocks behind it move up, every second time with the numbers of their new places. */
+static void take_out_block(struct dice *d, uint8_t *log, size_t place, size_t blocks)
+{
+    bool mend = chance(d, 50);
+    for (size_t i = place; i + 1 < blocks; i++) {
+        memcpy(log + LOCKTABLE_BLOCK * i, log + LOCKTABLE_BLOCK * (i + 1), LOCKTABLE_BLOCK);
+        if (mend)
+            put_number(log + LOCKTABLE_BLOCK * i, i);
+    }
+}
+
+/* As in a buffer that is longer than its log: what it has there already, which is noise, zeros, or a good block of another log. */
+static void put_behind(struct dice *d, uint8_t *log, size_t blocks)
+{
+    uint8_t *behind = log + LOCKTABLE_BLOCK * blocks;
+    unsigned what = roll(d, 3);
+    if (what == 0)
+        return;
+    memset(behind, 0, LOCKTABLE_BLOCK);
+    if (what == 1)
+        return;
+    behind[4] = (uint8_t)(1 + roll(d, LOCKTABLE_BLOCK_RECORDS));
+    for (unsigned i = 0; i < behind[4]; i++)
+        behind[8 + 4 * i] = (uint8_t)(1 + roll(d, 5));
+    put_number(behind, blocks);
+}
+
+/* At the place that was drawn with the log stands a record that is refused there, if one comes up soon. */
+static void refuse_record(struct dice *d, uint8_t *log, const struct drawn_log *drawn)
+{
+    uint8_t *block = log + LOCKTABLE_BLOCK * (drawn->place / LOCKTABLE_BLOCK_RECORDS);
+    struct mood m = { LOCKTABLE_THREADS, LOCKTABLE_RESOURCES, 256, 0 };
+    struct locktable_record e;
+    struct locktable copy;
+    int tries = 0;
+    if (chance(d, 50))
+        m.junk_percent = 30;
+    if (chance(d, 50))
+        m.threads = 1 + roll(d, 4); /* so that a Create finds all of them live */
+    do {
+        copy = drawn->table;
+        e = draw_record(d, &m, &copy, drawn->running);
+    } while (model_step(&copy, e).number == LOCKTABLE_ACCEPTED && ++tries < 16);
+    memcpy(block + 8 + 4 * (drawn->place % LOCKTABLE_BLOCK_RECORDS), &e, sizeof e);
+    mend_check(block);
+}
+
+/* The size alone: no multiple of a block's, or more than 525 blocks. */
+static size_t harm_size(struct dice *d, size_t size)
+{
+    switch (roll(d, 4)) {
+    case 0: return LOCKTABLE_LOG_SIZE + LOCKTABLE_BLOCK;
+    case 1: return LOCKTABLE_LOG_SIZE + 1 + roll(d, LOCKTABLE_BLOCK - 1);
+    case 2: return size > 0 ? size - 1 - roll(d, LOCKTABLE_BLOCK - 1) : 1;
+    default: return size + 1 + roll(d, LOCKTABLE_BLOCK - 1);
+    }
+}
+
+size_t harm_log(struct dice *d, uint8_t *log, const struct drawn_log *drawn, size_t size)
+{
+    size_t blocks = size / LOCKTABLE_BLOCK, one = roll(d, blocks > 0 ? (unsigned)blocks : 1);
+    uint8_t *block = log + LOCKTABLE_BLOCK * one;
+    unsigned what = blocks > 0 ? roll(d, 10) : roll(d, 2);
+    if (size % LOCKTABLE_BLOCK != 0 || size > LOCKTABLE_LOG_SIZE)
+        return size;
+    switch (what) {
+    case 0: return harm_size(d, size);
+    case 1: put_behind(d, log, blocks); return size + LOCKTABLE_BLOCK;
+    case 2: take_out_block(d, log, one, blocks); return size - LOCKTABLE_BLOCK;
+    case 3: exchange_blocks(d, log, one, roll(d, (unsigned)blocks)); return size;
+    case 4: shorten_block(d, block); return size;
+    case 5: case 6: damage_block(d, block, records_of(block)); return size;
+    default: refuse_record(d, log, drawn); return size;
+    }
 }

@@ -1,4 +1,4 @@
-/* Records, tables and blocks of the log by chance, the same for the same seed on every machine. */
+/* Records, tables, blocks of the log and logs by chance, the same for the same seed on every machine. */
 #ifndef BENCH_DRAW_H
 #define BENCH_DRAW_H
 #include <stdint.h>
@@ -44,9 +44,21 @@ struct locktable_record draw_any_record(struct dice *d);
 uint32_t draw_so_far(struct dice *d);
 /* Of a log with so_far records the block that takes the next one, as the model leaves it. Where the record would start it, nothing. */
 void make_block(struct dice *d, uint8_t *log, uint32_t so_far);
-/* Changes one or two bytes of a block with so many records, 1 to 124, or exchanges two. Every second time the check is made to agree again, so that
-   it does not give the change away. */
+/* Changes one or two bytes of a block with so many records, at most 125, or exchanges two. Every second time the check is made to agree again,
+   so that it does not give the change away. */
 void damage_block(struct dice *d, uint8_t block[LOCKTABLE_BLOCK], unsigned records);
 void draw_bytes(struct dice *d, uint8_t *bytes, size_t n);
+
+/* A log that is to be read back: how many records it has, and the place of one of them, with the table before it, and who runs there. */
+struct drawn_log {
+    uint32_t records, place;
+    struct locktable table;
+    unsigned running;
+};
+/* The log of accepted records by chance, from the empty table on, of none to four blocks, as the model writes it. */
+void draw_log(struct dice *d, uint8_t *log, struct drawn_log *drawn);
+/* Harms a log of this size in one way and gives its size afterwards: a damaged block, a shortened one, one that is missing, exchanged or too
+   many, a refused record, or another size, at most one block above 525. The buffer has room for that. A log can be harmed twice. */
+size_t harm_log(struct dice *d, uint8_t *log, const struct drawn_log *drawn, size_t size);
 
 #endif

@@ -33,6 +33,9 @@ LOGS = {
     'log_block': 'all 125 records of a block, the mean',
     'log_refused': 'refused with 14: one byte of 62 records changed',
 }
+# Of a log that is read back, one full block: the history in it, by its live threads; and how it is read, with the call that is counted.
+READ_THREADS, BLOCK_RECORDS = [2, 8, 32], 125
+WAYS_TO_READ = {'whole': 'replay', 'changed': 'replay', 'stepped': 'step'}
 # Of the terminal, on the table of a shipment that has just started: the call, and what it does or why it is refused.
 TASKS = {
     'terminal_start': ('terminal_start', 'a shipment starts'),
@@ -50,7 +53,7 @@ KINDS = {
 }
 EVENTS, P, V = ['', 'Create', 'Exit', 'Set', 'P', 'V'], 4, 5
 RESOURCES, MARKS = 16, 64  # MARKS as in crates/slots/src/times.rt
-CALLS = ['step', 'running', 'thread', 'resource', 'empty', 'log', 'terminal_start', 'terminal_spare', 'terminal_spare_at']
+CALLS = ['step', 'running', 'thread', 'resource', 'empty', 'log', 'replay', 'terminal_start', 'terminal_spare', 'terminal_spare_at']
 # How the names of each version's calls begin, and the head of its column.
 VERSIONS = {'locktable': 'ours', 'fast': 'fast.c', 'best': 'best.c', 'nosse': 'fast.c without SSE'}
 THREE = ['locktable', 'fast', 'best']
@@ -69,13 +72,14 @@ def named(call, versions=VERSIONS):
 
 
 def read_counts(path):
-    """function -> times, mean, worst, stack; each kind's function is one jump to the step, which is taken off."""
+    """function -> times, mean, worst, stack, total; each kind's function is one jump to the step, which is taken off."""
     found = {}
     for line in open(path):
         w = line.split()
         if w[0] == 'function' and int(w[3]) > 0:
             jump = 1 if w[1].partition('_')[2] in KINDS else 0
-            found[w[1]] = {'times': int(w[3]), 'mean': float(w[7]) - jump, 'worst': int(w[11]) - jump, 'stack': int(w[15])}
+            found[w[1]] = {'times': int(w[3]), 'mean': float(w[7]) - jump, 'worst': int(w[11]) - jump, 'stack': int(w[15]),
+                           'total': int(w[5]) - jump * int(w[3])}
     return found
 
 
@@ -179,6 +183,24 @@ def log_table(counts):
     for name, words in LOGS.items():
         rows.append([words] + [counts[name][function]['mean'] for function in functions])
     rows.append(['the dearest of these'] + [max(counts[name][function]['worst'] for name in LOGS) for function in functions])
+    return version_table(rows)
+
+
+def reading(counts, threads, how):
+    """What a block costs, read back in one way, for each version. Where it is stepped that is the sum of all its steps."""
+    return [counts[f'replay_{threads}_{how}'][function]['total'] for function in named(WAYS_TO_READ[how])]
+
+
+def replay_table(counts):
+    rows = []
+    for threads in READ_THREADS:
+        whole, steps = (reading(counts, threads, how) for how in ('whole', 'stepped'))
+        rows.append([f'a full block, busy history of {threads} live threads'] + whole)
+        rows.append(['a record of it'] + [x / BLOCK_RECORDS for x in whole])
+        rows.append([f'its {BLOCK_RECORDS} steps, one call each'] + steps)
+        rows.append(['what is left besides the steps, a record'] + [(x - y) / BLOCK_RECORDS for x, y in zip(whole, steps)])
+    changed = [max(of_one) for of_one in zip(*[reading(counts, threads, 'changed') for threads in READ_THREADS])]
+    rows.append(['one pass and no step: refused with 14, since one byte of a full block is changed'] + changed)
     return version_table(rows)
 
 
@@ -321,6 +343,15 @@ with the place in the block. It depends on nothing else, except that a refusal m
 comes last, since only the check tells that a byte has changed.
 
 {logs}
+## Reading a log back
+
+`locktable_replay` on a log of one full block, 125 records that are accepted from the empty table on: the whole call, a
+record's share, and the same records by 125 calls of the step. A log of n records takes n steps and one pass over each
+of its blocks. Besides, ours hands the table from step to step by value, which C does not: most of what is left. The C
+versions make the same steps, each with its test whether the table is sound. A block that is refused as a whole costs
+the pass alone.
+
+{replays}
 ## The terminal
 
 The calls of `include/terminal.h`, on the table of a shipment that has just started: sixteen live threads, and nobody
@@ -351,6 +382,7 @@ or by hand, after it has built the programs once:
     bench/count -f soundness::check::check -f fast_look -f best_look target/bench/cost chain falling 64
     bench/count -f locktable_step -f fast_step target/bench/cost trial bench/worst/ours.table
     bench/count -s -f locktable_log -f fast_log -f best_log target/bench/cost log 1 124
+    bench/count -s -f locktable_replay -f fast_replay -f best_replay target/bench/cost replay 8 whole
     bench/count -s -f terminal_start -f fast_terminal_start target/bench/cost terminal start
     bench/stack target/bench/cost
 
@@ -444,7 +476,8 @@ def page(counts, depths, version, compiler):
                        goals=table(['', 'ours', 'at most', 'which is', 'met'], of_step + of_log),
                        step=history_tables(counts, named('step')),
                        worst=worst_found(counts), sound=history_tables(counts, TESTS),
-                       queries=query_table(counts), logs=log_table(counts), terminal=terminal_table(counts),
+                       queries=query_table(counts), logs=log_table(counts), replays=replay_table(counts),
+                       terminal=terminal_table(counts),
                        kinds=kind_tables(counts) + '\n',
                        stack=stack_table(touched, depths), fast_frames=number(depths['fast_step']))
 
@@ -456,6 +489,10 @@ def read_line(path):
 def main(folder):
     counts = {name: read_history(f'{folder}/{name}.count', TESTS) for name in WORKLOADS}
     counts.update({name: read_history(f'{folder}/{name}.count', named('log')) for name in LOGS})
+    for threads in READ_THREADS:
+        for how, call in WAYS_TO_READ.items():
+            name = f'replay_{threads}_{how}'
+            counts[name] = read_history(f'{folder}/{name}.count', named(call))
     counts.update({name: read_history(f'{folder}/{name}.count', named(call)) for name, (call, _) in TASKS.items()})
     depths = read_depths(f'{folder}/frames')
     print(page(counts, depths, read_line(f'{folder}/version'), read_line(f'{folder}/compiler')), end='')

@@ -3,14 +3,15 @@
 #include "locktable.h"
 #include "locktable.h"
 
-#if LOCKTABLE_VERSION != 4
-#error "these answers are those of version 4"
+#if LOCKTABLE_VERSION != 5
+#error "these answers are those of version 5"
 #endif
 
 /* Through pointers, so that no compiler takes its own convention for the call: their types have LOCKTABLE_ABI, as the header says. */
 static void (LOCKTABLE_ABI *volatile empty)(struct locktable *) = locktable_empty;
 static struct locktable_answer (LOCKTABLE_ABI *volatile step)(struct locktable *, struct locktable_record) = locktable_step;
 static uint8_t (LOCKTABLE_ABI *volatile keep)(uint8_t *, size_t, uint32_t, struct locktable_record) = locktable_log;
+static struct locktable_replayed (LOCKTABLE_ABI *volatile replay)(const uint8_t *, size_t) = locktable_replay;
 
 static int steps_right(struct locktable *t)
 {
@@ -56,10 +57,23 @@ static int log_right(uint8_t *log, size_t size)
         && keep(log, size, 1, create) == LOCKTABLE_LOG_NOT_AS_SAID;
 }
 
+/* The log of these two records, as log_right has left it, and then with a check that doesn't agree. */
+static int replay_right(uint8_t *log, size_t size)
+{
+    struct locktable_replayed a = locktable_replay(log, size), b = replay(log, size - 1), c = replay(log, 0), d;
+    log[508]++;
+    d = replay(log, size);
+    return a.number == LOCKTABLE_ACCEPTED && a.records == 2 && a.table.clock == 2
+        && locktable_running(&a.table).running == 3 && locktable_resource(&a.table, 5).holder == 3
+        && b.number == LOCKTABLE_LOG_LENGTH && b.records == 0
+        && c.number == LOCKTABLE_ACCEPTED && c.records == 0 && locktable_running(&c.table).running == LOCKTABLE_NOBODY
+        && d.number == LOCKTABLE_LOG_NOT_AS_SAID && d.records == 0;
+}
+
 /* Whatever the convention that this file is compiled for, main is called by that of the machine it runs on. */
 LOCKTABLE_ABI int main(void)
 {
     struct locktable t;
     uint8_t log[LOCKTABLE_BLOCK * LOCKTABLE_LOG_BLOCKS(2)];
-    return steps_right(&t) && queries_right(&t) && log_right(log, sizeof log) ? 0 : 1;
+    return steps_right(&t) && queries_right(&t) && log_right(log, sizeof log) && replay_right(log, sizeof log) ? 0 : 1;
 }

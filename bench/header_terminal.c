@@ -4,8 +4,8 @@
 #include "locktable.h"
 #include "terminal.h"
 
-#if TERMINAL_VERSION != 1 || LOCKTABLE_VERSION != 4
-#error "these answers are those of version 1, on a table of version 4"
+#if TERMINAL_VERSION != 1 || LOCKTABLE_VERSION != 5
+#error "these answers are those of version 1, on a table of version 5"
 #endif
 
 /* Through pointers, as in header.c. */

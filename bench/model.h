@@ -11,6 +11,7 @@
     struct locktable_thread_answer SIDE##_thread(const struct locktable *t, uint8_t thread);                               \
     struct locktable_resource_answer SIDE##_resource(const struct locktable *t, uint8_t resource);                         \
     uint8_t SIDE##_log(uint8_t *log, size_t size, uint32_t so_far, struct locktable_record e);                             \
+    struct locktable_replayed SIDE##_replay(const uint8_t *log, size_t size);                                              \
     struct locktable_answer SIDE##_terminal_start(struct locktable *t);                                                    \
     struct locktable_answer SIDE##_terminal_spare(struct locktable *t, uint8_t id);                                        \
     struct locktable_answer SIDE##_terminal_spare_at(struct locktable *t, uint8_t id, uint8_t priority)
@@ -35,10 +36,13 @@ enum table_rule { BALANCE_RULE = 1, CLOCK_RULE = 2, DEAD_RULE = 4, OTHER_RULES =
 /* Which of them the table breaks; where it breaks others the totals are not looked at. */
 unsigned model_broken_totals(const struct locktable *t);
 
-/* What a block that takes a record, and does not start with it, has to be like; each a bit in a set of those that it breaks. */
+/* What a block has to be like that takes a record, and does not start with it, or that is read back; each a bit in a set of those that it
+   breaks. */
 enum block_rule { NUMBER_RULE = 1, COUNT_RULE = 2, SPARE_RULE = 4, UNUSED_RULE = 8, CHECK_RULE = 16 };
 /* Which of them the block breaks that stands where the log's next record goes, after so_far of them. */
 unsigned model_broken_rules(const uint8_t *block, uint32_t so_far);
+/* Which of them the block breaks that is read back, at this place of a log. */
+unsigned model_broken_goodness(const uint8_t *block, uint32_t place);
 /* The check that the block ought to have. */
 uint32_t model_check(const uint8_t *block);
 

@@ -1,6 +1,6 @@
 /* What include/locktable.h and include/terminal.h say of the calls, beyond their answers, and can be tried by running them: which memory they
-   write, how a table comes to its end, what the totals tell, how a kernel keeps its log, how a shipment starts and goes on, and that tables and
-   logs are independent. What they say of the machine code is tried by bench/header. */
+   write, how a table comes to its end, what the totals tell, how a kernel keeps its log and reads it back, how a shipment starts and goes on,
+   and that tables and logs are independent. What they say of the machine code is tried by bench/header. */
 #define _DEFAULT_SOURCE /* for mmap and setitimer beside C11 */
 #include <pthread.h>
 #include <signal.h>
@@ -68,7 +68,7 @@ static void end_with(int signal) { _exit(signal); }
 static void on_fault(int signal)
 {
     (void)signal;
-    expect(false, "a query and a refused call of the log write nothing, and no call touches a byte beyond what it is lent");
+    expect(false, "a query, a refused call of the log and one that reads it back write nothing there, and no call touches a byte beyond it");
 }
 
 /* A process of its own, in which a fault is a signal to end with. */
@@ -542,6 +542,13 @@ static bool log_has(const uint8_t *log, const struct locktable_record *records, 
     return true;
 }
 
+/* Whether the log of this table's events is read fully, to the same table, where it is lent as the header says. */
+static bool leads_to(const uint8_t *log, const struct locktable *table)
+{
+    struct locktable_replayed r = locktable_replay(log, (size_t)LOCKTABLE_LOG_BLOCKS(table->clock) * LOCKTABLE_BLOCK);
+    return r.number == LOCKTABLE_ACCEPTED && r.records == table->clock && memcmp(&r.table, table, sizeof *table) == 0;
+}
+
 /* The step, then the log if it is accepted, as the header has it: the log has the accepted records and no others. Each history begins anew
    with locktable_empty, on a buffer that is not cleared. */
 static void logs_keep_what_is_accepted(void)
@@ -567,10 +574,11 @@ static void logs_keep_what_is_accepted(void)
         }
         size_t end = (size_t)LOCKTABLE_BLOCK * LOCKTABLE_LOG_BLOCKS(n);
         expect(n == table.clock && log_has(log, accepted, n), "the log has the accepted records");
+        expect(leads_to(log, &table), "a log of accepted events is read fully, and leads to their table");
         expect(memcmp(log + end, before + end, sizeof log - end) == 0, "what stands behind the log is as it was");
         most = n > most ? n : most;
     }
-    printf("promises: the log has what was accepted, after %d histories of up to %u accepted events\n", HISTORIES, most);
+    printf("promises: the log has what was accepted, and is read back, after %d histories of up to %u accepted events\n", HISTORIES, most);
 }
 
 /* A buffer of LOCKTABLE_LOG_SIZE bytes, and one that is a byte shorter. */
@@ -635,6 +643,142 @@ static void changes_are_noticed(void)
     log[17]--;
     expect(locktable_log(log, sizeof log, BEFORE, e) == LOCKTABLE_ACCEPTED, "2 more at byte 8 and 1 less at byte 17 are not noticed");
     printf("promises: the log notices each of %u changes of a byte and of %u exchanges of two\n", changes, exchanges);
+}
+
+/* An event that is accepted there: a thread comes, takes the printer and gives it back, and so on. */
+static struct locktable_record turn_number(uint32_t n)
+{
+    static const uint8_t kinds[] = { LOCKTABLE_P, LOCKTABLE_SET, LOCKTABLE_V, LOCKTABLE_SET };
+    if (n == 0)
+        return (struct locktable_record){ LOCKTABLE_CREATE, 7, 9, 0 };
+    return (struct locktable_record){ kinds[(n - 1) % 4], 7, (uint8_t)((n - 1) / 4 % LOCKTABLE_RESOURCES), 0 };
+}
+
+/* The table after the first n of these, and their log. */
+static struct locktable after_turns(uint8_t *log, size_t size, uint32_t n)
+{
+    struct locktable t;
+    locktable_empty(&t);
+    for (uint32_t i = 0; i < n; i++) {
+        expect(locktable_step(&t, turn_number(i)).number == LOCKTABLE_ACCEPTED, "a thread takes a resource and gives it back");
+        expect(locktable_log(log, size, i, turn_number(i)) == LOCKTABLE_ACCEPTED, "the log takes each of these");
+    }
+    return t;
+}
+
+static void mend_check(uint8_t *block)
+{
+    uint32_t sum = 0;
+    for (uint32_t i = 0; i < LOCKTABLE_BLOCK - 4; i++)
+        sum += (i + 1) * block[i];
+    for (unsigned i = 0; i < 4; i++)
+        block[LOCKTABLE_BLOCK - 4 + i] = (uint8_t)(sum >> 8 * i);
+}
+
+/* By the convention a large answer is written where the call's first argument says, which is not among those in C. So the room can be chosen. */
+typedef void (LOCKTABLE_ABI read_into)(struct locktable_replayed *room, const uint8_t *log, size_t size);
+
+/* Room for an answer, of ones, that ends where a page does. */
+static struct locktable_replayed *room_on_page(void)
+{
+    uint8_t ones[sizeof(struct locktable_replayed)];
+    memset(ones, UINT8_MAX, sizeof ones);
+    return (struct locktable_replayed *)(void *)copy_on_page(ones, sizeof ones, PROT_READ | PROT_WRITE);
+}
+
+/* The log lies on a page that may only be read and ends with it, as does the room for the answer; what follows may not be touched. */
+static void read_to(const uint8_t *log, size_t size, uint8_t number, uint32_t records)
+{
+    uint8_t again[3 * LOCKTABLE_BLOCK];
+    struct locktable want = after_turns(again, sizeof again, records);
+    struct locktable_replayed *r = room_on_page();
+    ((read_into *)(void (*)(void))locktable_replay)(r, copy_on_page(log, size, PROT_READ), size);
+    expect(r->number == number && r->records == records, "each log that is read back has its answer, on a page that may only be read");
+    expect(memcmp(&r->table, &want, sizeof want) == 0, "where the reading is stopped the table is that of the records before");
+}
+
+/* A log of three blocks, and each refusal. Behind a wrong length no byte is looked at. */
+static void logs_are_only_read(void)
+{
+    enum { BLOCK = LOCKTABLE_BLOCK, RECORDS = LOCKTABLE_BLOCK_RECORDS, ALL = 2 * RECORDS + 50, SIZE = 3 * BLOCK };
+    uint8_t log[SIZE], harmed[SIZE];
+    after_turns(log, sizeof log, ALL);
+    read_to(log, 0, LOCKTABLE_ACCEPTED, 0);
+    read_to(log, SIZE, LOCKTABLE_ACCEPTED, ALL);
+    read_to(log, 2 * BLOCK, LOCKTABLE_ACCEPTED, 2 * RECORDS);
+    read_to(log, SIZE - 1, LOCKTABLE_LOG_LENGTH, 0);
+    memcpy(harmed, log, sizeof log);
+    harmed[BLOCK + 100]++;
+    read_to(harmed, SIZE, LOCKTABLE_LOG_NOT_AS_SAID, RECORDS);
+    memcpy(harmed, log, sizeof log);
+    memset(harmed + BLOCK + RECORDS_AT + RECORD * 60, 0, RECORD * (RECORDS - 60));
+    harmed[BLOCK + COUNT_AT] = 60;
+    mend_check(harmed + BLOCK);
+    read_to(harmed, SIZE, LOCKTABLE_BLOCK_NOT_FULL, RECORDS);
+    read_to(harmed, 2 * BLOCK, LOCKTABLE_ACCEPTED, RECORDS + 60);
+    harmed[BLOCK + RECORDS_AT + RECORD * 30 + 1] = 32;
+    mend_check(harmed + BLOCK);
+    read_to(harmed, 2 * BLOCK, LOCKTABLE_NO_SUCH_THREAD, RECORDS + 30);
+    printf("promises: a log is read back on a page that may only be read, to its end or to the refusal that stops it\n");
+}
+
+/* Pages that may not be touched at all. Some of the sizes are those of a short log if their high bits are left out. */
+static void lengths_come_first(void)
+{
+    static const uint64_t sizes[] = {
+        1, LOCKTABLE_BLOCK - 1, LOCKTABLE_BLOCK + 1, LOCKTABLE_LOG_SIZE - 1, LOCKTABLE_LOG_SIZE + 1, LOCKTABLE_LOG_SIZE + LOCKTABLE_BLOCK,
+        65536 * LOCKTABLE_BLOCK, 65537 * LOCKTABLE_BLOCK, (uint64_t)1 << 32, ((uint64_t)1 << 32) + LOCKTABLE_BLOCK,
+    };
+    size_t most = (size_t)sizes[sizeof sizes / sizeof *sizes - 1];
+    const uint8_t *log = mmap(0, most, PROT_NONE, MAP_PRIVATE | MAP_ANONYMOUS | MAP_NORESERVE, -1, 0);
+    struct locktable none;
+    expect(log != MAP_FAILED, "so many pages can be had that may not be touched");
+    locktable_empty(&none);
+    for (size_t i = 0; i < sizeof sizes / sizeof *sizes; i++) {
+        struct locktable_replayed r = locktable_replay(log, (size_t)sizes[i]);
+        expect(r.number == LOCKTABLE_LOG_LENGTH && r.records == 0, "a length that no log has is refused");
+        expect(memcmp(&r.table, &none, sizeof none) == 0, "where a length is refused the table is the empty one");
+    }
+    expect(leads_to(log, &none), "no bytes give the empty table");
+    expect(munmap((void *)log, most) == 0, "pages can be given back");
+    printf("promises: lengths that no log has are refused before the log is looked at\n");
+}
+
+/* A buffer with room behind its log: lent whole, lent as the header says, and with an older log's blocks behind. */
+static void buffers_are_cut(void)
+{
+    enum { BLOCK = LOCKTABLE_BLOCK, RECORDS = LOCKTABLE_BLOCK_RECORDS };
+    uint8_t card[4 * BLOCK] = { 0 };
+    struct locktable table = after_turns(card, sizeof card, RECORDS + 1);
+    struct locktable_replayed r = locktable_replay(card, sizeof card);
+    expect(r.number == LOCKTABLE_BLOCK_NOT_FULL && r.records == RECORDS, "with unused blocks behind it a log lacks its last block");
+    expect(leads_to(card, &table), "without the unused blocks it is read fully");
+    table = after_turns(card, sizeof card, 2 * RECORDS);
+    r = locktable_replay(card, sizeof card);
+    expect(r.number == LOCKTABLE_LOG_NOT_AS_SAID && r.records == 2 * RECORDS, "behind a full last block the reading is stopped by 14");
+    expect(leads_to(card, &table), "a full last block is read");
+    after_turns(card, sizeof card, 4 * RECORDS);
+    table = after_turns(card, sizeof card, RECORDS);
+    expect(locktable_replay(card, sizeof card).records == 4 * RECORDS, "the reading goes on into blocks that an older log left");
+    expect(leads_to(card, &table), "but not where the log alone is lent");
+    printf("promises: a buffer that is longer than its log is read to the log's end where that much is lent\n");
+}
+
+/* All 525 blocks, of 65,535 records; then one record more, which the log's own call does not take. */
+static void longest_log_is_read(void)
+{
+    static uint8_t log[LOCKTABLE_LOG_SIZE];
+    uint8_t *last = log + LOCKTABLE_LOG_SIZE - LOCKTABLE_BLOCK;
+    struct locktable table = after_turns(log, sizeof log, LOCKTABLE_EVENTS);
+    struct locktable_record e = turn_number(LOCKTABLE_EVENTS);
+    expect(leads_to(log, &table) && LOCKTABLE_EVENTS_LEFT(&table) == 0, "the longest log is read to its table");
+    memcpy(last + RECORDS_AT + RECORD * last[COUNT_AT], &e, sizeof e);
+    last[COUNT_AT]++;
+    mend_check(last);
+    struct locktable_replayed r = locktable_replay(log, sizeof log);
+    expect(r.number == LOCKTABLE_CLOCK_RUN_OUT && r.records == LOCKTABLE_EVENTS, "record 65,536 is refused with 5");
+    expect(memcmp(&r.table, &table, sizeof table) == 0, "the table then is that of the 65,535 before");
+    printf("promises: a log of %d records is read back to its table, and one record more is refused\n", LOCKTABLE_EVENTS);
 }
 
 /* A table of any kind: all ones, zeros, one in use, or noise. */
@@ -823,8 +967,9 @@ static void shipments_are_logged(void)
         }
         again = read_back(log, table.clock);
         expect(memcmp(&again, &table, sizeof table) == 0, "the log of a shipment leads to its table");
+        expect(leads_to(log, &table), "the log of a shipment is read fully");
     }
-    printf("promises: the log of a shipment leads to its table by steps alone, %d times, with %d spare tasks\n", HISTORIES, spares);
+    printf("promises: the log of a shipment leads to its table, by steps alone and read back, %d times, with %d spare tasks\n", HISTORIES, spares);
 }
 
 /* A history that goes on by itself: each event depends on its own table and dice alone. `heard` takes in all answers. */
@@ -847,6 +992,17 @@ static struct player new_player(uint64_t seed)
     return p;
 }
 
+/* Its log is read back, every once in a while. */
+static void open_at_times(struct player *p)
+{
+    if (roll(&p->dice, 200) > 0)
+        return;
+    in_a_call = 1;
+    bool same = leads_to(p->log, &p->table);
+    in_a_call = 0;
+    expect(same, "the log that was kept beside others is read back to its table");
+}
+
 /* A table begins anew when it has come to its end, and every once in a while before that as a shipment. */
 static void begin_at_times(struct player *p)
 {
@@ -861,6 +1017,7 @@ static void begin_at_times(struct player *p)
 
 static void play(struct player *p)
 {
+    open_at_times(p);
     begin_at_times(p);
     in_a_call = 1;
     unsigned running = locktable_running(&p->table).running;
@@ -973,6 +1130,10 @@ int main(void)
     logs_come_to_their_end();
     logs_move();
     changes_are_noticed();
+    logs_are_only_read();
+    lengths_come_first();
+    buffers_are_cut();
+    longest_log_is_read();
     shipments_start();
     tasks_come_back();
     draw_is_first();

@@ -1,9 +1,10 @@
 /* A toy kernel around the lock table: three tasks, one lock, and the table's answer decides who runs.
    The journal task is slow and takes the lock first. Then the urgent draw task wants it and must wait. The label task is of middling
    urgency and needs no lock: without inheritance it would run ahead of journal, and so of draw. Here journal runs at draw's urgency.
-   Each accepted event goes to a log, and when a task ends it is shown how often it took the lock. `bench/run --example` builds and runs
-   it. */
+   Each accepted event goes to a log, and when a task ends it is shown how often it took the lock. In the end the log is read back, as on
+   a bench to which the terminal has returned. `bench/run --example` builds and runs it. */
 #include <stdio.h>
+#include <string.h>
 #include "locktable.h"
 
 enum { PRINTER = 0 }; /* the lock is resource 0 */
@@ -97,6 +98,17 @@ static int do_next(uint8_t id)
     }
 }
 
+/* From the empty table on the log leads to the table that the kernel has. Only the blocks in use are lent, not the whole buffer. */
+static int read_back(void)
+{
+    int blocks = LOCKTABLE_LOG_BLOCKS(table.clock);
+    struct locktable_replayed r = locktable_replay(event_log, (size_t)blocks * LOCKTABLE_BLOCK);
+    int same = r.number == LOCKTABLE_ACCEPTED && memcmp(&r.table, &table, sizeof table) == 0;
+    printf("the log has %d block%s; read back, its %u records lead to %s table\n", blocks, blocks == 1 ? "" : "s", r.records,
+           same ? "the same" : "another");
+    return same;
+}
+
 int main(void)
 {
     int well = 1, draw_ended = 0, label_ahead = 0;
@@ -111,7 +123,6 @@ int main(void)
         draw_ended |= id == DRAW && locktable_thread(&table, DRAW).number == LOCKTABLE_NOT_LIVE;
     }
     printf(label_ahead ? "label ran ahead of draw\n" : "label never ran ahead of draw\n");
-    int blocks = LOCKTABLE_LOG_BLOCKS(table.clock);
-    printf("the log has %d block%s with %u records\n", blocks, blocks == 1 ? "" : "s", table.clock);
+    well &= read_back();
     return well && !label_ahead && fflush(stdout) == 0 ? 0 : 1;
 }

@@ -5,10 +5,11 @@
  * tells whether the event is accepted, and which thread is to run then. Whoever holds a resource is at least
  * as urgent as everybody who is blocked behind it.
  *
- * You keep the table, a `struct locktable` of 882 bytes, and lend it to each call. Begin with
+ * You keep the table, a `struct locktable` of 882 bytes, and lend it to the calls. Begin with
  * locktable_empty; then call locktable_step for each event. Three queries read the table. locktable_log
- * writes an accepted event to a log, in a buffer that is yours too. examples/kernel.c is a toy kernel.
- * terminal.h is a layer above, with tasks that every shipment starts with.
+ * writes an accepted event to a log, in a buffer that is yours too, and locktable_replay reads such a log
+ * back. examples/kernel.c is a toy kernel. terminal.h is a layer above, with tasks that every shipment
+ * starts with.
  *
  * For C11 or C++11 and later, on x86-64; link liblocktable.a (README.md, "From C").
  *
@@ -16,20 +17,24 @@
  *   - The table: a whole `struct locktable` that nobody else touches during the call. What bytes it holds
  *     does not matter: a table that isn't sound is refused. locktable_empty and locktable_step need it
  *     writable, also where the step is refused: then too it stores all the bytes back, as they were. The
- *     queries only read the table, so for them it may lie in read-only memory.
- *   - The log: `size` bytes at `log`, at any address, writable, that nobody else touches during the call.
- *     What they hold does not matter. `log` must not be a null pointer, not even where `size` is 0. A call
- *     that is refused only reads.
+ *     queries only read the table, so for them it may lie in read-only memory. locktable_replay is lent no
+ *     table. It gives one back, in an answer of 886 bytes for which the caller has the room: the call writes
+ *     it there itself, by the convention, so that must not be where the log is.
+ *   - The log: `size` bytes at `log`, at any address, that nobody else touches during the call. What they
+ *     hold does not matter. `log` must not be a null pointer, not even where `size` is 0. locktable_log
+ *     needs them writable, but only reads where it is refused. locktable_replay only reads, so for that the
+ *     log may lie in read-only memory.
  *   - memcpy and memset. The archive refers to nothing else outside it.
  *   - The stack aligned to 16 bytes, as the ABI of x86-64 has it, since the library stores there by aligned
  *     SSE instructions: a kernel that is compiled for a boundary of 8 (-mpreferred-stack-boundary=3) would
  *     fault.
  *   - SSE2 switched on, and the registers xmm0 to xmm15 saved by whoever still needs what they hold.
- *     Arguments and answers go by general registers, so the caller may be compiled without SSE
- *     (-mgeneral-regs-only).
- *   - Up to 2 KiB of stack (measured; bench/FIGURES.md). The red zone is used, the 128 bytes below the stack
- *     pointer: no interrupt may write there. In ring 0 the processor itself does so, at an interrupt that
- *     stays on this stack; there a call needs interrupts switched off, and NMIs a stack of their own (IST).
+ *     Arguments and answers go by general registers, and the answer of locktable_replay by memory, so the
+ *     caller may be compiled without SSE (-mgeneral-regs-only).
+ *   - Up to 2 KiB of stack, and for locktable_replay up to 8 KiB (measured; bench/FIGURES.md). The red zone
+ *     is used, the 128 bytes below the stack pointer: no interrupt may write there. In ring 0 the processor
+ *     itself does so, at an interrupt that stays on this stack; there a call needs interrupts switched off,
+ *     and NMIs a stack of their own (IST).
  *   - Indirect branch tracking (IBT, a part of CET) switched off during the call. No function here begins
  *     with endbr64, and locktable_step has an indirect jump inside: it would fault even if it is called
  *     directly. The archive is not marked as fit for IBT (it has no .note.gnu.property).
@@ -45,17 +50,21 @@
  *     zone holds for that interrupt too.)
  *   - A step takes some 2,000 to 3,000 instructions on tables as they come up, and fewer than 7,000 on the
  *     worst that was found. A query takes fewer than a step on the same table, a record of the log fewer
- *     than 2,000. bench/FIGURES.md has the figures. They are measured, and the worst is looked for, not
- *     proved.
+ *     than 2,000. A log that is read back takes a step for each record and fewer than 1,000 besides, and
+ *     fewer than 3,000 for one pass over each block: a long log takes long, and so the call is for the bench
+ *     rather than for a kernel at work. bench/FIGURES.md has the figures. They are measured, and the worst
+ *     is looked for, not proved.
  *   - What the calls do and answer, as this file says it, is proved for every table, every buffer and
  *     every argument: in crates/locktable/src/lib.rt and crates/lent that a call does to what it is lent
  *     what the function does that it calls; in crates/locks/src/step.rt and crates/queries/src/lib.rt what
  *     that function answers and makes of the table, in the terms that the specs of crates locks, queries,
  *     events, refusals and table define; in crates/log/src/lib.rt what it answers and makes of the log, in
- *     the terms that the specs of that crate define (Block, Card and Keep); in crates/demands that this is
- *     the paper's protocol, that the totals are those of the events, and what every call leaves on any
- *     table (specs/Fixed.antt): that an accepted event leaves a sound table, and that a count is at most
- *     16, are there too.
+ *     the terms that the specs of that crate define (Block, Card and Keep); in crates/replay/src/lib.rt
+ *     what a log that is read back gives, in the terms that the specs of that crate define (Read); in
+ *     crates/demands that this is the paper's protocol, that the totals are those of the events, that what
+ *     a kernel keeps is read back to its table (specs/Replay.antt), and what every call leaves on any table
+ *     (specs/Fixed.antt): that an accepted event leaves a sound table, and that a count is at most 16, are
+ *     there too.
  *   - Not proved are what a call needs, its time, which memory it touches, that there is no other state,
  *     how long a drain takes and the layout (the last two are below). bench/run tries them. */
 #ifndef LOCKTABLE_H
@@ -63,11 +72,11 @@
 
 /* Raised by one whenever something changes that a program could notice: a layout, a kind of event, a
  * number in an answer, what a call takes, does or answers, or which calls there are. Other words and
- * faster code leave it as it is. Version 4 has five kinds of event and six calls, and of those who wait the
- * one of highest current precedence takes over (in version 3 the one of highest own precedence did; version
- * 2 did not count requests and releases, and version 1 had no log). The archive has no such number in it:
- * take both from the same tree. */
-#define LOCKTABLE_VERSION 4
+ * faster code leave it as it is. Version 5 has five kinds of event and seven calls. Version 4 could not read
+ * a log back. In version 3 the one of highest own precedence took over of those who waited, and not the one
+ * of highest current precedence. Version 2 did not count requests and releases, and version 1 had no log.
+ * The archive has no such number in it: take both from the same tree. */
+#define LOCKTABLE_VERSION 5
 
 /* The calls go by the System V convention of x86-64, whatever the compiler's own one is: UEFI and Windows
  * have another, and so has -mabi=ms. A pointer to a call needs the same word in its type. A compiler that has
@@ -187,7 +196,8 @@ struct locktable_record {
 
 /* REFUSALS
  *
- * The number in an answer: accepted, or why not. Where several apply it is the lowest. */
+ * The number in an answer: accepted, or why not. Where several apply it is the lowest; where a log is read
+ * back it is the first that is come to, see there. */
 enum locktable_number {
     LOCKTABLE_ACCEPTED = 0,
     LOCKTABLE_NOT_SOUND = 1,      /* the table isn't sound */
@@ -206,9 +216,14 @@ enum locktable_number {
     LOCKTABLE_CIRCLE = 9,
     LOCKTABLE_NOT_HOLDER = 10,    /* V by a thread that isn't the holder */
     LOCKTABLE_STILL_HOLDS = 11,   /* Exit by a thread that holds any resource */
-    /* of the log alone, see there: the buffer ends before the block does that takes the record */
+    /* of the log alone, as are the next three, see there: the buffer ends before the block does that takes
+     * the record */
     LOCKTABLE_LOG_TOO_SHORT = 13,
-    LOCKTABLE_LOG_NOT_AS_SAID = 14 /* that block is not as the records before have left it */
+    /* that block is not as the records before have left it; or a log is read back, and a block isn't good */
+    LOCKTABLE_LOG_NOT_AS_SAID = 14,
+    /* of a log that is read back: its length isn't a multiple of 512, or is above 525 blocks */
+    LOCKTABLE_LOG_LENGTH = 15,
+    LOCKTABLE_BLOCK_NOT_FULL = 16 /* a block of it before the last has fewer than 125 records */
     /* 17 is a refusal of the layer above: terminal.h */
 };
 
@@ -342,17 +357,63 @@ LOCKTABLE_ABI struct locktable_resource_answer locktable_resource(const struct l
  * and say so: later records of that block are refused too, as a rule, but the first one of the next block
  * is not, since the call looks at no other block. The log would then have a gap.
  *
- * A log names nobody who took over. That comes out when its records are stepped again from the empty table,
- * and so by the rules in force there: a log that was written with version 3 or below can be refused on the
- * way, or lead to another table, when it is read with this one. Its bytes have no room for a mark, so keep
- * LOCKTABLE_VERSION beside a log that is to be read later.
- *
  * What the check is good for: if any one byte of a good block is changed, or if two bytes of it that
  * differ are exchanged, the block is good no more (proved, crates/log/proofs/Promise.antt). What it is not
  * good for: several changes can make up for each other, such as 2 more at byte 8 and 1 less at byte 17,
  * and whoever knows the rule can write any block. It is no signature. And this call does not look again at
- * a block that is full. */
+ * a block that is full; locktable_replay looks at all of them. */
 LOCKTABLE_ABI uint8_t locktable_log(uint8_t *log, size_t size, uint32_t so_far, struct locktable_record e);
+
+/* READING A LOG BACK
+ *
+ * A terminal comes back, and its log is to be opened: the records are stepped again, one after the other,
+ * from the empty table on.
+ *
+ * table: the one after the records that were applied. records: how many these are, which is that table's
+ * clock. number: LOCKTABLE_ACCEPTED if the log was read to its end, else the enum locktable_number that
+ * stopped it. */
+struct locktable_replayed {
+    struct locktable table;
+    uint16_t records;
+    uint8_t number;
+};
+
+/* If a refusal stopped the reading, the records before it were applied, and the table is theirs. The log is
+ * only read, and no table is lent. A log of no bytes gives the empty table, 0 records and LOCKTABLE_ACCEPTED.
+ *
+ * What locktable_log wrote from accepted events, each once and in order, is read fully, and gives the table
+ * that those events led to.
+ *
+ * First, before any byte of the log is looked at:
+ *   - LOCKTABLE_LOG_LENGTH: size isn't a multiple of 512, or is above LOCKTABLE_LOG_SIZE, which are 525
+ *     blocks. The table is the empty one.
+ * Then block by block. All records of one block are applied before the next block is looked at. So what is
+ * wrong further on doesn't matter until the reading comes there:
+ *   - LOCKTABLE_LOG_NOT_AS_SAID: the block isn't good. No record of it is applied. A good block bears its
+ *     place as its number, counted from 0, has 1 to 125 records by its count, zeros in its spare bytes and
+ *     unused records, and a check that agrees.
+ *   - LOCKTABLE_BLOCK_NOT_FULL: the block is good, but has fewer than 125 records, and isn't the last. No
+ *     record of it is applied.
+ *   - An event's own number, as locktable_step would answer it there, 2 to 11: that record is refused. The
+ *     records of the block before it are applied, and none from there on. 5 comes only behind 65,535 others,
+ *     in the last of 525 blocks. 1 never comes, since every table on the way is sound.
+ *
+ * How much of a buffer is the log? The call takes all `size` bytes for it. But a kernel's buffer mostly has
+ * blocks behind the log that are unused. Lent whole it stops with LOCKTABLE_BLOCK_NOT_FULL, and without the
+ * records of the log's last block; or with LOCKTABLE_LOG_NOT_AS_SAID behind that block if it is full. And
+ * where an older log has left good blocks there, a reading can go on into these. So lend the blocks that n
+ * records take, and no more. Where the table is still there whose log it is, n is its clock; for a log that
+ * is to be read later, note n beside it:
+ *
+ *     size_t bytes = (size_t)LOCKTABLE_LOG_BLOCKS(n) * LOCKTABLE_BLOCK;
+ *     struct locktable_replayed r = locktable_replay(card, bytes);
+ *     if (r.number == LOCKTABLE_ACCEPTED && r.records == n)
+ *         ..
+ *
+ * A log names nobody who took over. That comes out when its records are stepped again, and so by the rules in
+ * force here: a log that was written with version 3 or below can be refused on the way, or lead to another
+ * table. Its bytes have no room for a mark, so note LOCKTABLE_VERSION beside it too. */
+LOCKTABLE_ABI struct locktable_replayed locktable_replay(const uint8_t *log, size_t size);
 
 /* THE LAYOUT
  *
@@ -397,6 +458,9 @@ LOCKTABLE_AT(locktable_thread_answer, releases, 12);
 LOCKTABLE_SIZE(locktable_resource_answer, 3);
 LOCKTABLE_AT(locktable_resource_answer, holder, 1);
 LOCKTABLE_AT(locktable_resource_answer, waiters, 2);
+LOCKTABLE_SIZE(locktable_replayed, 886);
+LOCKTABLE_AT(locktable_replayed, records, 882);
+LOCKTABLE_AT(locktable_replayed, number, 884);
 LOCKTABLE_SURE(LOCKTABLE_BLOCK == 8 + LOCKTABLE_BLOCK_RECORDS * sizeof(struct locktable_record) + 4,
                "a block of the log is its head, its records and its check");
 LOCKTABLE_SURE(LOCKTABLE_LOG_BLOCKS(LOCKTABLE_EVENTS) == 525, "blocks of the log of all events");
