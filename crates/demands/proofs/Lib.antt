@@ -30,6 +30,7 @@ pub mod Types
 pub mod Unique
 pub mod Wrong
 pub mod KeptUsed
+pub mod ReplayWrong
 pub mod ReplayUsed
 pub mod OneTable
 pub mod OneNumber

@@ -1,28 +1,24 @@
 -- What is read back of a log: specs/Replay has the statement. Assumes nothing.
-use Prim.Native.Nat.{ℕ, _+_, _*_, _≤_, _<_}
-use mathlib.Core.Path.{_≡_, refl, sym, ap, subst, _∙_}
-use mathlib.Core.Logic.{_≢_, by-cases}
+use Prim.Native.Nat.{ℕ, _+_, _*_, _≤_}
+use mathlib.Core.Path.{_≡_, refl, sym, ap, _∙_}
+use mathlib.Core.Logic.{by-cases}
 use mathlib.Core.List.{List, [], _∷_, _++_, append-nil, append-assoc}
 use native.Mathlib.Decide.{ℕ-discrete}
 use native.Mathlib.Omega.{arith}
-use borrow.Author.Tests.{eq-eqb, ne-eqb}
 use lib.ListN.{length, take}
-use lib.Seq.{take-at, length-take-le}
+use lib.Seq.{take-at}
 use Rattle.table.specs.declared.Table.{Table}
 use Rattle.table.specs.Table.{empty}
-use Rattle.refusals.specs.declared.Record.{Record}
 use Rattle.log.specs.Bytes.{Four, Fours}
 use Rattle.log.specs.Card.{blocks-for, log-of}
-use Rattle.log.proofs.Numbers.{bytes-take}
 use Rattle.log.proofs.Rows.{four}
-use Rattle.log.proofs.Places.{length-log, bytes-log, longest}
+use Rattle.log.proofs.Places.{length-log, bytes-log}
 use Rattle.locks.specs.declared.Answer.{Answer}
-use Rattle.locks.specs.declared.Done.{Done}
 use Rattle.locks.specs.Answers.{answerOf}
 use Rattle.locks.proofs.Clock.{stands}
 use Rattle.locktable.specs.Four.{four-of}
 use Rattle.replay.specs.declared.Replayed.{Replayed}
-use Rattle.replay.specs.Read.{event-in, answer-to, Reads, Gives}
+use Rattle.replay.specs.Read.{event-in, Gives}
 use Rattle.replay.specs.Leads.{Leads, none, one-more}
 use Rattle.replay.proofs.Applying.{leads-then, reads-lead}
 use Rattle.replay.proofs.Answers.{gives-one}
