@@ -1,4 +1,5 @@
 // Records in, lines out, over slices. See specs/ for what the lines are.
+#![tactic(auto)]
 pub mod printing;
 
 ghost use Rattle.std.specs.Prelude.{◌≡◌, [], ◌+◌, ◌≤◌, length};

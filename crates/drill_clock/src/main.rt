@@ -1,5 +1,6 @@
 // Brings the clock to 65,534 by records of its own and tries the edge there. The lines it prints go on from there: record 65,535 is
 // the last that is accepted.
+#![tactic(auto)]
 use drill::printing::print;
 use drill::{Bench, Fed, feed};
 use listing::header;

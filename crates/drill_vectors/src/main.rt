@@ -1,4 +1,5 @@
 // Drills each of the inputs in data/ by name, one listing after the other, up to the first that can't be listed whole.
+#![tactic(auto)]
 use drill::printing::print_listing;
 use streams::fail;
 

@@ -1,4 +1,5 @@
 // Keeps each of the inputs in data/ by name, one log after the other, up to the first that can't be kept whole.
+#![tactic(auto)]
 use keeping::writing::keep_input;
 use streams::fail;
 

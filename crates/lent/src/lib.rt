@@ -1,6 +1,7 @@
 // The step on a table that is lent, and through it on one by value. Whoever needs the step besides the kernel's call takes it from here: the
 // compiled step then has one caller, in which it is inlined, and the table is copied into it and out of it and no more often
 // (docs/DECISIONS.md, "What a call costs").
+#![tactic(auto)]
 ghost use Rattle.std.specs.Prelude.{◌≡◌};
 ghost use Rattle.locks.specs.Answers.{answer_of};
 

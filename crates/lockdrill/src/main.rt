@@ -1,4 +1,5 @@
 // Reads records from standard input, from the empty table on, and prints the listing of their answers.
+#![tactic(auto)]
 use drill::printing::print_listing;
 use libc::STDIN_FILENO;
 

@@ -1,4 +1,5 @@
 // The by-value step. See specs/ for what it answers.
+#![tactic(auto)]
 mod judge;
 pub mod step;
 

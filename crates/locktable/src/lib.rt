@@ -1,5 +1,6 @@
 // The calls of a kernel that keeps its only table and lends it. A query calls the by-value function; the step hands the table on as it is
 // lent, to the function of crate lent that stores what the by-value step gives back. Exported for C; include/locktable.h declares them, and include/terminal.h those of the module tasks.
+#![tactic(auto)]
 pub mod tasks;
 
 ghost use Rattle.std.specs.Prelude.{◌≡◌};

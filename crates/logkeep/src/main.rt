@@ -1,4 +1,5 @@
 // Reads records from standard input, from the empty table on, and writes the log of those that are accepted.
+#![tactic(auto)]
 use keeping::writing::keep_input;
 use libc::STDIN_FILENO;
 

@@ -1,4 +1,5 @@
 // Reads a log from standard input and prints the lines of the records that reading it applies.
+#![tactic(auto)]
 use libc::STDIN_FILENO;
 use reading::printing::print_log;
 

@@ -92,16 +92,16 @@ nowhere_balanced none = at_rest (number_none (λ x h. none x h.0)) (λ x w. none
 -- In every valid state, whoever the releases let follow, the totals of every thread balance.
 pub balance : {s : State} → Valid s → (th : Thread) → Balanced (wq s) th (requests th s) (releases th s)
 balance {s = []} v th = nowhere_balanced (λ x i. i)
-balance {s = Create u prio ∷ s} (after v (create dead)) th = go (ℕ_discrete u th) (balance v th)
+balance {s = Create u prio ∷ s} (after v (create dead)) th = go (ℕ_discrete u th) (balance {s = s} v th)
   where
     go : Dec (u ≡ th) → Balanced (wq s) th (requests th s) (releases th s) → Balanced (wq s) th (requests th (Create u prio ∷ s)) (releases th (Create u prio ∷ s))
     go (yes e) b = rw (eq-eqb u th e) (nowhere_balanced (λ x i. dead (rw e ((valid_kept s v).entries x th i))))
     go (no n) b = rw (ne_eqb u th n) b
-balance {s = Exit u ∷ s} v th = balance (valid_before v) th
-balance {s = Set u prio ∷ s} v th = balance (valid_before v) th
+balance {s = Exit u ∷ s} v th = balance {s = s} (valid_before v) th
+balance {s = Set u prio ∷ s} v th = balance {s = s} (valid_before v) th
 balance {s = P u cs ∷ s} v th = if-equal u th (λ a. Balanced (wq (P u cs ∷ s)) th (a + requests th s) (releases th s)) 1 0
-    (λ e. rw (e, add_comm 1 (requests th s)) (joined_balanced (joins s th cs (rw e at v)) (balance (valid_before v) th)))
-    (λ n. rw zero-add (joined_others (joins s u cs v) (λ e. n (sym e)) (balance (valid_before v) th)))
+    (λ e. rw (e, add_comm 1 (requests th s)) (joined_balanced (joins s th cs (rw e at v)) (balance {s = s} (valid_before v) th)))
+    (λ n. rw zero-add (joined_others (joins s u cs v) (λ e. n (sym e)) (balance {s = s} (valid_before v) th)))
 balance {s = «V» u cs next ∷ s} v th = if-equal u th (λ a. Balanced (wq («V» u cs next ∷ s)) th (requests th s) (a + releases th s)) 1 0
-    (λ e. rw (add_comm 1 (releases th s)) (passed_balanced (passes s u cs next v) (rw e at (releaser_holds s u cs next v)) (balance (valid_before v) th)))
-    (λ n. rw zero-add (passed_others (passes s u cs next v) (releaser_holds s u cs next v) (λ e. n (sym e)) (balance (valid_before v) th)))
+    (λ e. rw (add_comm 1 (releases th s)) (passed_balanced (passes s u cs next v) (rw e at (releaser_holds s u cs next v)) (balance {s = s} (valid_before v) th)))
+    (λ n. rw zero-add (passed_others (passes s u cs next v) (releaser_holds s u cs next v) (λ e. n (sym e)) (balance {s = s} (valid_before v) th)))

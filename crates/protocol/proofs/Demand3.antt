@@ -114,7 +114,7 @@ pub until_some : (s : State) (s' : List Event) (u : ℕ) → (es : List Event) �
 until_some s [] u = ([], none_yet)
 until_some s (e ∷ s') u = ⊎_elim (λ f. (e ∷ s', so_far f)) (λ w. let r = until_some s s' u in (r.0, over w.1 w.2 r.1)) (ever_or_not s s' u)
 
-pub until_one : {s : State} {s' es fs : List Event} {u : ℕ} → Until u s s' es → Until u s s' fs → es ≡ fs
+pub until_one : {s : State} {u : ℕ} {s' es fs : List Event} → Until u s s' es → Until u s s' fs → es ≡ fs
 until_one none_yet none_yet = refl
 until_one (so_far f) (so_far g) = refl
 until_one (so_far f) (over mo n k) = absurd (n (f _ mo))
@@ -148,10 +148,10 @@ module _ (s : State) (th : ℕ) where
   other_calls e s' p u ne by = let w = first_sentence s th s' (earlier p) u (caller_runs (s' ++ s) e u by (last_step p.by_rules)) ne in ((ne, w.1 s (first s s')), w.1)
 
   -- all calls of another thread come before it first neither holds nor waits
-  all_until : (s' : List Event) → Premises s th s' → (u : ℕ) → u ≢ th → (es : List Event) → Until u s s' es → calls u es ≡ calls u s'
-  all_until s' p u ne es none_yet = refl
-  all_until s' p u ne es (so_far f) = refl
-  all_until s' p u ne es (over {e = e} {s' = s''} mo n k) = all_until s'' (earlier p) u ne es k ∙ go (caller e) refl ∙ sym (calls_more (λ x. eqb x u) e s'')
+  all_until : (u : ℕ) → u ≢ th → (s' : List Event) → Premises s th s' → (es : List Event) → Until u s s' es → calls u es ≡ calls u s'
+  all_until u ne s' p es none_yet = refl
+  all_until u ne s' p es (so_far f) = refl
+  all_until u ne s' p es (over {e = e} {s' = s''} mo n k) = all_until u ne s'' (earlier p) es k ∙ go (caller e) refl ∙ sym (calls_more (λ x. eqb x u) e s'')
     where
       go : (o : Option ℕ) → caller e ≡ o → calls u s'' ≡ tally (λ x. eqb x u) o + calls u s''
       go none q = omega arith
@@ -188,7 +188,7 @@ second_sentence s th s' p n K count few = omega (arith, others_sum s th count.ea
   where
     each : (u : ℕ) → u ∈ set count.each → calls u s' ≤ K
     each u i = let o = (count.exactly u).0 i in let w = until_some s s' u in
-        omega (arith, few u o w.0 w.1, all_until s th s' p u o.0 w.0 w.1)
+        omega (arith, few u o w.0 w.1, all_until s th u o.0 s' p w.0 w.1)
 
 -- Lemma 2, in the paper's words: a detached thread other than th does not run
 pub lemma_2 : (s : State) (th : ℕ) (s' : List Event) → Premises s th s' → (th' : ℕ) → th' ≢ th → Detached (s' ++ s) th' → ¬ (th' ∈ running (s' ++ s))

@@ -1,2 +1,3 @@
 // Whether a table's queues are right, and what they say.
+#![tactic(auto)]
 pub mod survey;

@@ -1,4 +1,5 @@
 // Lists each of the logs in data/ by name, one listing after the other, up to the first that can't be listed whole.
+#![tactic(auto)]
 use reading::printing::print_log;
 use streams::fail;
 

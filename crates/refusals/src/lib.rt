@@ -1,4 +1,5 @@
 // Event records, and why one is refused. See specs/ for the numbers and their order.
+#![tactic(auto)]
 pub mod refusal;
 
 // An event record: four bytes.

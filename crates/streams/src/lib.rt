@@ -1,6 +1,7 @@
 // Reading and writing for every program here, over the C library's calls. What could not be read or written is never passed over: the
 // answer tells, and `fail` says it on standard error. A program has no exit status: after that line it comes to its end, and ./run, which
 // sees the line, ends with a status that is not 0.
+#![tactic(auto)]
 ghost use Rattle.std.specs.Prelude.{◌≡◌};
 ghost use Rattle.io.specs.Counts.{IsPrefixLen};
 ghost use Rattle.streams.specs.Errors.{passing};
