@@ -1,5 +1,6 @@
 // The lock table, and reading it. See specs/ for what each field means and when a table is sound.
 #![tactic(auto)]
+
 pub mod numbers;
 pub mod queues;
 pub mod running;

@@ -1,8 +1,8 @@
 -- A table that its type holds has arrays of their sizes: what a function knows of a table by value. Assumes nothing.
 use Prim.Native.Nat.{ℕ}
-use mathlib.Core.Path.{◌≡◌, sym, ◌∙◌}
-use mathlib.Core.List.{List, map}
-use lib.ListN.{length, length-map}
+use mathlib.Core.Path.{◌≡◌}
+use mathlib.Core.List.{List}
+use lib.ListN.{length}
 use mir.Syntax.{Width, w8, w16}
 use mir.Val.{Val}
 use denote.Plain.{UInt}
@@ -15,8 +15,8 @@ use Rattle.table.specs.contracts.Table as table
 use Rattle.table.proofs.Table.TheLaws as TableLaws
 
 -- one array of numbers
-pub typed_size : (w : Width) (n : ℕ) (xs : List ℕ) {vs : List Val} → Is (value.Array (UInt w) n) (map (λ (x : ℕ). x) xs) vs → length xs ≡ n
-typed_size w n xs p = sym (length-map xs (λ (x : ℕ). x)) ∙ p.1.0.1
+pub typed_size : (w : Width) (n : ℕ) (xs : List ℕ) {vs : List Val} → Is (value.Array (UInt w) n) xs vs → length xs ≡ n
+typed_size w n xs p = p.1.0.1
 
 -- all of a table's
 pub typed_shape : (t : Table) {vs : List Val} → Is table.the_row t vs → Shape t

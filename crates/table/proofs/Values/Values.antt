@@ -14,7 +14,7 @@ use Rattle.protocol.proofs.Walk.{Afresh, walk_on, walk_stop}
 use Rattle.protocol.proofs.Current.{Orderly, parents, parent_live, dependant_live, short, cprec_current, local_cprec}
 use Rattle.protocol.proofs.Topmost.{source}
 use Rattle.table.specs.declared.Table.{Table}
-use Rattle.table.specs.Table.{at, live, own, queues, Cprec}
+use Rattle.table.specs.Table.{live, own, queues, Cprec}
 use Rattle.table.specs.Sound.{Bare}
 use Rattle.table.specs.Code.Shape.{Shape}
 use Rattle.table.specs.Compute.{current}
