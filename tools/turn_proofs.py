@@ -162,7 +162,7 @@ def main():
     if answers:
         said = subprocess.run(["rt", "check"], stdout=subprocess.PIPE, stderr=subprocess.STDOUT, text=True).stdout
         for m in re.finditer(r"expected answers in \./proofs/(\S+?)/(?:Answers|Invariants)\.antt; ([^\n]*)", said):
-            opened[m.group(1)] = re.findall(r"`([^`]+)`", m.group(2))
+            opened[m.group(1)] = [n for n in re.findall(r"`([^`]+)`", m.group(2)) if "::" not in n]
         for m in re.finditer(r"(?m)^note: `([^`]+)` of proofs/(\S+?)/Answers\.antt must prove", said):
             opened.setdefault(m.group(2), []).append(m.group(1))
         for k, v in opened.items():
