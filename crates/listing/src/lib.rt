@@ -8,7 +8,7 @@ use table::Table;
 
 // A text of at most 48 bytes: the first `len` of `bytes`. The longest line has 33, so columns can still be added. What writes
 // takes the text and gives a longer one back.
-#[derive(Drop)]
+#[derive(Clone, Copy)]
 pub struct Text {
     pub bytes: [u8; Text::ROOM],
     pub len: usize,
