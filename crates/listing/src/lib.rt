@@ -1,5 +1,6 @@
 // The lines of the bench listing as bytes. See specs/ for what each line says.
 #![tactic(auto)]
+
 ghost use Rattle.std.specs.Prelude.{[], ◌∷◌, ◌++◌, ◌+◌, ◌≤◌, length};
 ghost use Rattle.listing.specs.Text.{decimal, dash_or, space, newline, header, line, tail_line, stop_line};
 ghost use Rattle.listing.specs.Writing.{Says, Blank, Writes};
