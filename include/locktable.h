@@ -58,7 +58,7 @@
  *     every argument: in crates/locktable/src/lib.rt and crates/lent that a call does to what it is lent
  *     what the function does that it calls; in crates/locks/src/step.rt and crates/queries/src/lib.rt what
  *     that function answers and makes of the table, in the terms that the specs of crates locks, queries,
- *     events, refusals and table define; in crates/log/src/lib.rt what it answers and makes of the log, in
+ *     events, refusals and table define; in crates/event_log/src/lib.rt what it answers and makes of the log, in
  *     the terms that the specs of that crate define (Block, Card and Keep); in crates/replay/src/lib.rt
  *     what a log that is read back gives, in the terms that the specs of that crate define (Read); in
  *     crates/demands that this is the paper's protocol, that the totals are those of the events, that what
@@ -358,7 +358,7 @@ LOCKTABLE_ABI struct locktable_resource_answer locktable_resource(const struct l
  * is not, since the call looks at no other block. The log would then have a gap.
  *
  * What the check is good for: if any one byte of a good block is changed, or if two bytes of it that
- * differ are exchanged, the block is good no more (proved, crates/log/proofs/Promise.antt). What it is not
+ * differ are exchanged, the block is good no more (proved, crates/event_log/proofs/Promise.antt). What it is not
  * good for: several changes can make up for each other, such as 2 more at byte 8 and 1 less at byte 17,
  * and whoever knows the rule can write any block. It is no signature. And this call does not look again at
  * a block that is full; locktable_replay looks at all of them. */

@@ -33,7 +33,7 @@ fn time_in(n: u32) -> u16
 
 // What an accepted event leaves besides the queues: the slot of its thread, the running thread, the count, and the current precedences
 // to be stored.
-#[derive(Drop)]
+#[derive(Clone, Copy)]
 pub struct Outcome {
     pub slot: Slot,
     pub running: u8,

@@ -13,7 +13,7 @@ use request::request;
 use table::{Slot, Table};
 
 // The slot of the event's thread afterwards, and how many threads were worked out afresh.
-#[derive(Drop)]
+#[derive(Clone, Copy)]
 pub struct Change {
     pub slot: Slot,
     pub count: u8,

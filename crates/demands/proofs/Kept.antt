@@ -12,14 +12,14 @@ use lib.ListN.{length, drop, length-append}
 use Rattle.protocol.specs.Events.{State}
 use Rattle.table.specs.declared.Table.{Table}
 use Rattle.refusals.specs.declared.Record.{Record}
-use Rattle.log.specs.Bytes.{Fours}
-use Rattle.log.specs.Card.{blocks_for, log_of}
-use Rattle.log.specs.Keep.{Keeps}
-use Rattle.log.proofs.Numbers.{bytes_append, bytes_drop}
-use Rattle.log.proofs.Groups.{four_bytes, fours_append}
-use Rattle.log.proofs.Places.{bytes_log}
-use Rattle.log.proofs.Written.{only_short}
-use Rattle.log.proofs.Fresh.{KeptAll, none, more, kept_all, all_same_size}
+use Rattle.event_log.specs.Bytes.{Fours}
+use Rattle.event_log.specs.Card.{blocks_for, log_of}
+use Rattle.event_log.specs.Keep.{Keeps}
+use Rattle.event_log.proofs.Numbers.{bytes_append, bytes_drop}
+use Rattle.event_log.proofs.Groups.{four_bytes, fours_append}
+use Rattle.event_log.proofs.Places.{bytes_log}
+use Rattle.event_log.proofs.Written.{only_short}
+use Rattle.event_log.proofs.Fresh.{KeptAll, none, more, kept_all, all_same_size}
 use Rattle.locktable.specs.Four.{four_of}
 use Rattle.demands.specs.Memory.{AnyTable}
 use Rattle.demands.specs.Calls.{Calls}

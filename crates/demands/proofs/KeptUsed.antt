@@ -8,9 +8,9 @@ use lib.ListN.{length, get_or, drop}
 use Rattle.table.specs.declared.Table.{Table}
 use Rattle.table.specs.Table.{empty}
 use Rattle.refusals.specs.declared.Record.{Record}
-use Rattle.log.specs.Bytes.{low_first, join}
-use Rattle.log.specs.Block.{front, block}
-use Rattle.log.specs.Card.{blocks_for, blocks, log_of}
+use Rattle.event_log.specs.Bytes.{low_first, join}
+use Rattle.event_log.specs.Block.{front, block}
+use Rattle.event_log.specs.Card.{blocks_for, blocks, log_of}
 use Rattle.locktable.specs.Four.{four_of}
 use Rattle.demands.specs.Memory.{AnyTable}
 use Rattle.demands.specs.Calls.{Calls}

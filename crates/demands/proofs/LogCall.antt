@@ -7,12 +7,12 @@ use native.Mathlib.Decide.{dec_lt}
 use native.Mathlib.Omega.{arith}
 use lib.ListN.{length, get_or, replicate, get_or-replicate, get_or-eq_default}
 use Rattle.refusals.specs.declared.Record.{Record}
-use Rattle.log.specs.Bytes.{Bytes}
-use Rattle.log.specs.Card.{log_of}
-use Rattle.log.specs.Keep.{Keeps, ended, short, other, kept}
-use Rattle.log.proofs.Answers.{keeps_one}
-use Rattle.log.proofs.Always.{always}
-use Rattle.log.proofs.Examples.{one_record, first_kept}
+use Rattle.event_log.specs.Bytes.{Bytes}
+use Rattle.event_log.specs.Card.{log_of}
+use Rattle.event_log.specs.Keep.{Keeps, ended, short, other, kept}
+use Rattle.event_log.proofs.Answers.{keeps_one}
+use Rattle.event_log.proofs.Always.{always}
+use Rattle.event_log.proofs.Examples.{one_record, first_kept}
 use Rattle.locktable.specs.Four.{four_of}
 use Rattle.demands.specs.Memory.{AnyRecord}
 use Rattle.demands.specs.Kept.{AnyLog, Wrote, LogCall, LogSays, LogStated, LogFixed}

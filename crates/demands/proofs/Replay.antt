@@ -9,10 +9,10 @@ use lib.ListN.{length, take}
 use lib.Seq.{take_at}
 use Rattle.table.specs.declared.Table.{Table}
 use Rattle.table.specs.Table.{empty}
-use Rattle.log.specs.Bytes.{Four, Fours}
-use Rattle.log.specs.Card.{blocks_for, log_of}
-use Rattle.log.proofs.Rows.{four}
-use Rattle.log.proofs.Places.{length_log, bytes_log}
+use Rattle.event_log.specs.Bytes.{Four, Fours}
+use Rattle.event_log.specs.Card.{blocks_for, log_of}
+use Rattle.event_log.proofs.Rows.{four}
+use Rattle.event_log.proofs.Places.{length_log, bytes_log}
 use Rattle.locks.specs.declared.Answer.{Answer}
 use Rattle.locks.specs.Answers.{answer_of}
 use Rattle.locks.proofs.Clock.{stands}

@@ -7,7 +7,7 @@ use borrow.Author.Tests.{eq-eqb}
 use lib.ListN.{length, take}
 use Rattle.table.specs.declared.Table.{Table}
 use Rattle.table.specs.Table.{empty}
-use Rattle.log.specs.Card.{blocks_for}
+use Rattle.event_log.specs.Card.{blocks_for}
 use Rattle.replay.specs.declared.Replayed.{Replayed}
 use Rattle.demands.specs.Memory.{AnyTable}
 use Rattle.demands.specs.Calls.{Calls}

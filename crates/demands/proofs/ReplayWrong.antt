@@ -7,11 +7,11 @@ use native.Mathlib.Omega.{arith}
 use lib.ListN.{length, set, get_or, length-set}
 use Rattle.table.specs.declared.Table.{Table}
 use Rattle.table.specs.Table.{empty}
-use Rattle.log.specs.Bytes.{Bytes, Fours}
-use Rattle.log.specs.Card.{log_of}
-use Rattle.log.proofs.Numbers.{bytes_set}
-use Rattle.log.proofs.Groups.{four_bytes}
-use Rattle.log.proofs.Places.{length_log, bytes_log}
+use Rattle.event_log.specs.Bytes.{Bytes, Fours}
+use Rattle.event_log.specs.Card.{log_of}
+use Rattle.event_log.proofs.Numbers.{bytes_set}
+use Rattle.event_log.proofs.Groups.{four_bytes}
+use Rattle.event_log.proofs.Places.{length_log, bytes_log}
 use Rattle.locks.specs.Answers.{answer_of}
 use Rattle.locks.proofs.Clock.{counts_up}
 use Rattle.locktable.specs.Four.{four_of}

@@ -32,7 +32,7 @@ use Rattle.locktable.specs.contracts.locktable_thread as thread
 use Rattle.locktable.specs.contracts.locktable_resource as resource
 use Rattle.locktable.specs.contracts.locktable_log as log
 use Rattle.locktable.specs.contracts.locktable_replay as replay
-use Rattle.log.specs.Bytes.{Bytes}
+use Rattle.event_log.specs.Bytes.{Bytes}
 use Rattle.demands.specs.Memory.{Array, AnyTable, AnyRecord}
 use Rattle.demands.specs.Kept.{AnyLog}
 

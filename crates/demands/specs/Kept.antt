@@ -3,9 +3,9 @@
 use Rattle.std.specs.Prelude.{ℕ, ◌*◌, ◌≤◌, ◌<◌, ◌≡◌, cond, ◌⊎◌, List, [], ◌∷◌, ◌++◌, eqb, length, drop}
 use Rattle.table.specs.declared.Table.{Table}
 use Rattle.refusals.specs.declared.Record.{Record}
-use Rattle.log.specs.Bytes.{Bytes}
-use Rattle.log.specs.Card.{blocks_for, log_of}
-use Rattle.log.specs.Keep.{Keeps}
+use Rattle.event_log.specs.Bytes.{Bytes}
+use Rattle.event_log.specs.Card.{blocks_for, log_of}
+use Rattle.event_log.specs.Keep.{Keeps}
 use Rattle.locktable.specs.Four.{four_of}
 use Rattle.demands.specs.Memory.{AnyTable, AnyRecord}
 use Rattle.demands.specs.Calls.{Calls}

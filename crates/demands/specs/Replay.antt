@@ -2,7 +2,7 @@
 use Rattle.std.specs.Prelude.{ℕ, ◌*◌, ◌≤◌, ◌≡◌, ◌⊎◌, List, [], ◌∷◌, length, take}
 use Rattle.protocol.specs.Events.{State}
 use Rattle.table.specs.declared.Table.{Table}
-use Rattle.log.specs.Card.{blocks_for}
+use Rattle.event_log.specs.Card.{blocks_for}
 use Rattle.replay.specs.declared.Replayed.{Replayed}
 use Rattle.replay.specs.Read.{event_in, Reads, Gives}
 use Rattle.demands.specs.Memory.{AnyTable}

@@ -1,5 +1,6 @@
 // The lines of the bench listing as bytes. See specs/ for what each line says.
 #![tactic(auto)]
+
 ghost use Rattle.std.specs.Prelude.{[], ◌∷◌, ◌++◌, ◌+◌, ◌≤◌, length};
 ghost use Rattle.listing.specs.Text.{decimal, dash_or, space, newline, header, line, tail_line, stop_line};
 ghost use Rattle.listing.specs.Writing.{Says, Blank, Writes};
@@ -8,7 +9,7 @@ use table::Table;
 
 // A text of at most 48 bytes: the first `len` of `bytes`. The longest line has 33, so columns can still be added. What writes
 // takes the text and gives a longer one back.
-#[derive(Drop)]
+#[derive(Clone, Copy)]
 pub struct Text {
     pub bytes: [u8; Text::ROOM],
     pub len: usize,

@@ -8,7 +8,7 @@ use table::Table;
 
 // The answer to an event: the number, the running thread of the table afterwards, and the count of re-evaluations.
 #[repr(C)]
-#[derive(Drop)]
+#[derive(Clone, Copy)]
 pub struct Answer {
     pub number: u8,
     pub running: u8,
@@ -16,7 +16,7 @@ pub struct Answer {
 }
 
 // The table afterwards, and the answer, in this order (docs/DECISIONS.md, "What a call costs").
-#[derive(Drop)]
+#[derive(Clone, Copy)]
 pub struct Done {
     pub table: Table,
     pub answer: Answer,

@@ -7,13 +7,13 @@ ghost use Rattle.std.specs.Prelude.{◌≡◌};
 ghost use Rattle.table.specs.Table.{empty};
 ghost use Rattle.queries.specs.Queries.{running_answer, thread_answer, resource_answer};
 ghost use Rattle.locks.specs.Answers.{answer_of};
-ghost use Rattle.log.specs.Keep.{Keeps};
+ghost use Rattle.event_log.specs.Keep.{Keeps};
 ghost use Rattle.replay.specs.Read.{Gives};
 ghost use Rattle.locktable.specs.Four.{four_of};
 
 use lent::step_lent;
 use locks::{Answer, Record};
-use log::keep;
+use event_log::keep;
 use queries::{ResourceAnswer, RunningAnswer, ThreadAnswer, resource_of, running_of, thread_of};
 use replay::{Replayed, replay};
 use table::Table;

@@ -11,7 +11,7 @@ use table::running::running;
 
 // The running thread; 32 if there is none, and on a refusal.
 #[repr(C)]
-#[derive(Drop)]
+#[derive(Clone, Copy)]
 pub struct RunningAnswer {
     pub number: u8,
     pub running: u8,
@@ -53,7 +53,7 @@ pub fn running_of(t: Table) -> RunningAnswer
 // A thread's own priority and set time, its current precedence, the resource it waits for, 16 if none, and how often it requested and
 // released since it was created. On a refusal zeros.
 #[repr(C)]
-#[derive(Drop)]
+#[derive(Clone, Copy)]
 pub struct ThreadAnswer {
     pub number: u8,
     pub priority: u8,
@@ -126,7 +126,7 @@ pub fn thread_of(t: Table, thread: u8) -> ThreadAnswer
 
 // A resource's holder, 32 if it is free, and the number of its waiters. On a refusal zeros.
 #[repr(C)]
-#[derive(Drop)]
+#[derive(Clone, Copy)]
 pub struct ResourceAnswer {
     pub number: u8,
     pub holder: u8,

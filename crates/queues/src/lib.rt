@@ -1,3 +1,4 @@
 // Whether a table's queues are right, and what they say.
 #![tactic(auto)]
+
 pub mod survey;

@@ -4,7 +4,7 @@ pub mod refusal;
 
 // An event record: four bytes.
 #[repr(C)]
-#[derive(Drop)]
+#[derive(Clone, Copy)]
 pub struct Record {
     pub kind: u8,
     pub thread: u8,

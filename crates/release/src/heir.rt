@@ -14,7 +14,7 @@ use table::numbers::value;
 use table::queues::wide;
 
 // Whoever follows at a V: its place in the queue, 0 where nobody waits, and its number afterwards.
-#[derive(Drop)]
+#[derive(Clone, Copy)]
 pub struct Next {
     pub place: usize,
     pub number: u32,

@@ -41,7 +41,7 @@ fn queues_right<'a>(
 
 // sound: the answer. The rest is known of a sound table. waits: what each thread waits for (16: nothing). holders: who holds each resource
 // (32: nobody).
-#[derive(Drop)]
+#[derive(Clone, Copy)]
 pub struct Checked {
     pub sound: bool,
     pub waits: [u8; Table::THREADS],

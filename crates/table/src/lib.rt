@@ -13,7 +13,7 @@ ghost use Rattle.table.specs.Table.{empty, dead_slot};
 // other number makes the table unsound; that the clock is at most 65,535 and a priority at most 255 holds by the types. Later fields stand
 // last, so that those before them stay where they were.
 #[repr(C)]
-#[derive(Drop)]
+#[derive(Clone, Copy)]
 pub struct Table {
     pub clock: u16,
     pub live: [u8; Table::THREADS],
@@ -62,7 +62,7 @@ impl Table {
 }
 
 // What the table has of one thread, but for its current precedence. A slot is made here and nowhere else.
-#[derive(Drop)]
+#[derive(Clone, Copy)]
 pub struct Slot {
     pub live: u8,
     pub priority: u8,

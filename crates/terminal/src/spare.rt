@@ -23,7 +23,7 @@ const NOT_SPARE: u8 = 17;
 const DEFAULT: u8 = 0;
 
 // The priority that a spare task is wanted with.
-#[derive(Drop)]
+#[derive(Clone, Copy)]
 pub enum Wanted {
     At(u8),
     Unsaid,
