@@ -1,5 +1,6 @@
 // P: a thread joins the end of a resource's queue.
 #![tactic(auto)]
+
 mod climb;
 
 ghost use Rattle.std.specs.Prelude.{◌≡◌, List, ℕ, ◌+◌, ◌*◌, ◌<◌, set};
