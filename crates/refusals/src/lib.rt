@@ -1,5 +1,6 @@
 // Event records, and why one is refused. See specs/ for the numbers and their order.
 #![tactic(auto)]
+
 pub mod refusal;
 
 // An event record: four bytes.

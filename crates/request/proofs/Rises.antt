@@ -45,7 +45,7 @@ module _ {b a : Table} {gb : Good b} {g : Good a} {waiting holders owns : List �
       Rising a.queue a.length holders waiting owns v c x (suc n)
   rising (stop {t = x} f) c size w m = rises (thread_low a g x w.here) (law_gives k c x (max (at c x) v) w.here m) (λ rose low. absurd (f (blocker a x) (up k x w.here low).1))
   rising (hop {t = x} {h = h} {n = n} j r) c size w m = rises {c = c} {x = x} {k = suc n} (thread_low a g x w.here) (law_gives k c x (max (at c x) v) w.here m)
-      (λ rose low. rw ((up k x w.here low).0 ∙ child_blocker a g.bare.one_wait (resource_low a g) x h j) (rising r (set c x v) (length-set c x v ∙ size) (next rose) (Higher rose)))
+      (λ rose low. rw ((up k x w.here low).0 ∙ child_blocker a g.bare.one_wait (resource_low a g) x h j) (rising r (set c x v) (length-set c x v ∙ size) (next rose) (higher rose)))
     where
       stored : at (set c x v) x ≡ v
       stored = get_or-set_same c x v 0 (omega (arith, size, thread_low a g x w.here))
@@ -59,7 +59,7 @@ module _ {b a : Table} {gb : Good b} {g : Good a} {waiting holders owns : List �
       apart q = acyclic a g x (direct (rw q at j))
 
       -- x has risen to v, and so its holder is to have the higher of its number and v
-      Higher : at c x < v → Local ◌≤◌ (hops a g) (own_rank a g) (at (set c x v)) h (max (at (set c x v) h) v)
-      Higher rose = rw (get_or-set_other c x h v 0 apart) (comes_in (at c) (at (set c x v)) (w.others h (next rose).here apart) j stored
+      higher : at c x < v → Local ◌≤◌ (hops a g) (own_rank a g) (at (set c x v)) h (max (at (set c x v) h) v)
+      higher rose = rw (get_or-set_other c x h v 0 apart) (comes_in (at c) (at (set c x v)) (w.others h (next rose).here apart) j stored
           (λ u i. by_cases (ℕ_discrete u x) inr (λ d. inl (i, get_or-set_other c x u v 0 d)))
           (λ u i. by_cases (ℕ_discrete u x) (λ s. inr (rw s rose)) (λ d. inl (i, get_or-set_other c x u v 0 d))))

@@ -27,9 +27,9 @@ module _ (b a : Table) where
   tells_stops x = tells_either (tells_same (current b x) (current a x)) (tells_eq (waits_for a x) 16)
 
   -- it counts x alone, or x and what it counts from whom x waits for
-  Step : (m x : ℕ) → (Stops x × (walk (suc m) b a x ≡ 1)) ⊎ ((¬ Stops x) × (walk (suc m) b a x ≡ suc (walk m b a (blocker a x))))
+  step : (m x : ℕ) → (Stops x × (walk (suc m) b a x ≡ 1)) ⊎ ((¬ Stops x) × (walk (suc m) b a x ≡ suc (walk m b a (blocker a x))))
   unfolding walk
-  Step m x = go (same (current b x) (current a x) || eqb (waits_for a x) 16) (tells_stops x)
+  step m x = go (same (current b x) (current a x) || eqb (waits_for a x) 16) (tells_stops x)
     where
       above : ℕ
       above = walk m b a (blocker a x)
@@ -40,11 +40,11 @@ module _ (b a : Table) where
 
   pub counts_one : (x : ℕ) → Stops x → Counts x 1
   counts_one x s zero h = absurd (omega arith)
-  counts_one x s (suc m) h = ⊎_elim (λ w. w.1) (λ w. absurd (w.0 s)) (Step m x)
+  counts_one x s (suc m) h = ⊎_elim (λ w. w.1) (λ w. absurd (w.0 s)) (step m x)
 
   pub counts_on : (x n : ℕ) → ¬ Stops x → Counts (blocker a x) n → Counts x (suc n)
   counts_on x n d above zero h = absurd (omega arith)
-  counts_on x n d above (suc m) h = ⊎_elim (λ w. absurd (d w.0)) (λ w. w.1 ∙ ap suc (above m (omega arith))) (Step m x)
+  counts_on x n d above (suc m) h = ⊎_elim (λ w. absurd (d w.0)) (λ w. w.1 ∙ ap suc (above m (omega arith))) (step m x)
 
   -- it counts no more threads than the way from x passes, and x
   module _ (g : Good a) where
@@ -57,7 +57,7 @@ module _ (b a : Table) where
         free = ⊎_elim {C = waits_for a x ≡ 16} (λ k. absurd (f (blocker a x) k.1)) (λ k. k.0) (blocker_cases a g.bare.one_wait (resource_low a g) x)
     walk_short (hop {t = x} {h = v} {n = n} j c) (suc m) =
         let on = rw (← child_blocker a g.bare.one_wait (resource_low a g) x v j) at (walk_short c m) in
-        ⊎_elim (λ w. omega (arith, w.1)) (λ w. omega (arith, w.1)) (Step m x)
+        ⊎_elim (λ w. omega (arith, w.1)) (λ w. omega (arith, w.1)) (step m x)
 
     pub counts_short : {x n : ℕ} → Climb (hops a g) x n → (k : ℕ) → Counts x k → k ≤ suc n
     counts_short c k counts = omega (arith, walk_short c k, counts k (omega arith))
