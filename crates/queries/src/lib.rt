@@ -1,5 +1,6 @@
 // The three queries. Each tests the table, as every call does, and changes nothing. A `number` is 0, or why it is refused.
 #![tactic(auto)]
+
 ghost use Rattle.std.specs.Prelude.{◌≡◌, ◌-◌};
 ghost use Rattle.queries.specs.Queries.{running_answer, thread_answer, thread_refused, resource_answer, resource_refused};
 
