@@ -1,5 +1,6 @@
 // V: the thread leaves the head of the resource's queue, and whoever stands at a given place follows.
 #![tactic(auto)]
+
 pub mod heir;
 
 ghost use Rattle.std.specs.Prelude.{◌≡◌, [], ◌*◌, ◌<◌, ◌≤◌, take, drop};
