@@ -2,7 +2,7 @@
    not ready, in turn, the others move at most SHORT bytes. By environment variables:
      FULL_AFTER=N    standard output takes N bytes and no more
      TORN_AFTER=N    standard input gives N bytes and then an error
-     LOST=1          closing standard output says that what was written is lost */
+     LOST=1          closing standard output, or having a file kept, says that what was written is lost */
 #define _GNU_SOURCE
 #include <errno.h>
 #include <stdlib.h>
@@ -61,4 +61,12 @@ int close(int fd)
     if (fd == STDOUT_FILENO && limit("LOST") == 1)
         return failed(EIO);
     return (int)syscall(SYS_close, fd);
+}
+
+/* A program opens its standard output once more to have it kept, so that is another descriptor. */
+int fsync(int fd)
+{
+    if (limit("LOST") == 1)
+        return failed(EIO);
+    return (int)syscall(SYS_fsync, fd);
 }

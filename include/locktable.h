@@ -55,16 +55,17 @@
  *     rather than for a kernel at work. bench/FIGURES.md has the figures. They are measured, and the worst
  *     is looked for, not proved.
  *   - What the calls do and answer, as this file says it, is proved for every table, every buffer and
- *     every argument: in crates/locktable/src/lib.rt and crates/lent that a call does to what it is lent
- *     what the function does that it calls; in crates/locks/src/step.rt and crates/queries/src/lib.rt what
- *     that function answers and makes of the table, in the terms that the specs of crates locks, queries,
- *     events, refusals and table define; in crates/event_log/src/lib.rt what it answers and makes of the log, in
- *     the terms that the specs of that crate define (Block, Card and Keep); in crates/replay/src/lib.rt
- *     what a log that is read back gives, in the terms that the specs of that crate define (Read); in
- *     crates/demands that this is the paper's protocol, that the totals are those of the events, that what
- *     a kernel keeps is read back to its table (specs/Replay.antt), and what every call leaves on any table
- *     (specs/Fixed.antt): that an accepted event leaves a sound table, and that a count is at most 16, are
- *     there too.
+ *     every argument: in crates/locktable_c, crates/locktable and crates/lent that a call does to what
+ *     it is lent what the function does that it calls; in crates/locks/src/step.rt and
+ *     crates/queries/src/lib.rt what that function answers and makes of the table, in the terms that
+ *     the specs of crates locks, queries, events, refusals and table define; in
+ *     crates/event_log/src/lib.rt what it answers and makes of the log, in the terms that the specs of
+ *     that crate define (Block, Card and Keep); in crates/replay/src/lib.rt what a log that is read
+ *     back gives, in the terms that the specs of that crate define (Read); in crates/demands that this
+ *     is the paper's protocol, that the totals are those of the events, that what a kernel keeps is
+ *     read back to its table (specs/Replay.antt), and what every call leaves on any table
+ *     (specs/Fixed.antt): that an accepted event leaves a sound table, and that a count is at most 16,
+ *     are there too.
  *   - Not proved are what a call needs, its time, which memory it touches, that there is no other state,
  *     how long a drain takes and the layout (the last two are below). bench/run tries them. */
 #ifndef LOCKTABLE_H
@@ -358,8 +359,8 @@ LOCKTABLE_ABI struct locktable_resource_answer locktable_resource(const struct l
  * is not, since the call looks at no other block. The log would then have a gap.
  *
  * What the check is good for: if any one byte of a good block is changed, or if two bytes of it that
- * differ are exchanged, the block is good no more (proved, crates/event_log/proofs/Promise.antt). What it is not
- * good for: several changes can make up for each other, such as 2 more at byte 8 and 1 less at byte 17,
+ * differ are exchanged, the block is good no more (proved, crates/event_log/proofs/Promise.antt). What it is
+ * not good for: several changes can make up for each other, such as 2 more at byte 8 and 1 less at byte 17,
  * and whoever knows the rule can write any block. It is no signature. And this call does not look again at
  * a block that is full; locktable_replay looks at all of them. */
 LOCKTABLE_ABI uint8_t locktable_log(uint8_t *log, size_t size, uint32_t so_far, struct locktable_record e);

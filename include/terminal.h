@@ -23,12 +23,13 @@
  *   - terminal_start takes fewer than 50,000 instructions, since it makes sixteen steps: it is for the start
  *     of a shipment. A spare task takes fewer than 3,000 on the table that terminal_start leaves, and about
  *     what a step takes on any other. These are measured, not proved (bench/FIGURES.md).
- *   - What the calls do and answer, as this file says it, is proved for every table and every argument: in
- *     crates/terminal what each function leaves, and in crates/locktable/src/tasks.rt that a call does to
- *     the table that it is lent what that function does. In crates/shipment is proved, of a terminal_start
- *     and any calls after it on the same table: that the demands of README.md hold with these calls too
- *     (specs/Fixed.antt, specs/Ships.antt), that the fixed tasks start in their order (specs/Order.antt),
- *     and what is said below of the draw task (specs/Draw.antt).
+ *   - What the calls do and answer, as this file says it, is proved for every table and every argument:
+ *     in crates/terminal what each function leaves, and in src/tasks.rt of crates/locktable_c and
+ *     crates/locktable that a call does to the table that it is lent what that function does. In
+ *     crates/shipment is proved, of a terminal_start and any calls after it on the same table: that the
+ *     demands of README.md hold with these calls too (specs/Fixed.antt, specs/Ships.antt), that the
+ *     fixed tasks start in their order (specs/Order.antt), and what is said below of the draw task
+ *     (specs/Draw.antt).
  *   - Not proved are what a call needs, its time, which memory it touches, and that there is no other state.
  *     bench/run tries them. */
 #ifndef TERMINAL_H
