@@ -70,6 +70,7 @@ impl Text {
         self.byte(b' ').number(x as u64)
     }
 
+    #[tactic(auto, using(crate::proofs::Decimals::dash, crate::proofs::Decimals::no_dash, crate::proofs::Written::both))]
     fn thread_column(self, x: u8) -> Text
         requires { self.len + 4 ≤ 48 }
         ensures { Writes self (space ++ dash_or x) result × (result.len ≤ self.len + 4) }
