@@ -4,13 +4,14 @@
 usage: python3 tools/turn_edits.py WORK            at the top; WORK is a folder outside the checkout, for copies of the repository
        python3 tools/turn_edits.py --fits          says of each edit whether its text stands in the files as they are now
 
-docs/PORT.md begins with two commits: the last one in the old spelling, and the one that turned it. An edit is applied to its file in
-the old spelling, and the whole is turned as it was turned without the edit: by port.py and by tools/respell.py of the second commit.
-The lines in which the file then differs from the second commit's are what the edit says today. Many edits go in one copy, those whose
-lines lie close to one another in different ones. A copy that stands in WORK already is not made again.
+docs/PORT.md begins with two commits: the last one in the old spelling, and the one that turned it. (Without that page: the checkout's
+commit, and its files as port.py and tools/respell.py just left them.) An edit is applied to its file in the old spelling, and the whole
+is turned as it was turned without the edit: by port.py and by tools/respell.py. The lines in which the file then differs from the turned
+one are what the edit says today. Many edits go in one copy, those whose lines lie close to one another in different ones. A copy that
+stands in WORK already is not made again.
 
 An edit that fits as it stands and then says the same keeps its text. Of a line that the edit changes, the new text has the changed
-words, and as many beside them as make it stand once in the file.
+words and those beside them that the edit gave before, as far as they stand once in the file.
 """
 
 import collections
@@ -119,7 +120,7 @@ def in_copies(edits):
     return copies
 
 
-def turn(copy, to, landed, turned):
+def turn(copy, to, landed, respell):
     """A copy of the repository with these edits applied, turned."""
     mark = os.path.join(to, ".git", "turned")
     if os.path.exists(mark):
@@ -138,20 +139,39 @@ def turn(copy, to, landed, turned):
     subprocess.run([sys.executable, os.path.join(kit, "port", "port.py")], cwd=to, check=True, stdout=subprocess.DEVNULL)
     os.makedirs(os.path.join(to, "tools"), exist_ok=True)
     with open(os.path.join(to, "tools", "respell.py"), "w", encoding="utf-8") as f:
-        f.write(shown(turned, "tools/respell.py"))
+        f.write(respell)
     subprocess.run([sys.executable, os.path.join("tools", "respell.py")], cwd=to, check=True)
     with open(mark, "w", encoding="utf-8") as f:
         f.write("\n".join(e.path for e in copy) + "\n")
 
 
-def today(file):
-    """The path of a file now: a folder that only groups modules has a capital since."""
-    if os.path.exists(file):
-        return file
-    same = [p for p in git("ls-files", "crates").split("\n") if p.lower() == file.lower()]
-    if len(same) != 1:
-        raise SystemExit(f"turn_edits: {file} is gone")
-    return same[0]
+class Turned:
+    """The files as they were turned without an edit: those of a commit, or with no commit those of the checkout."""
+
+    def __init__(self, commit):
+        self.commit = commit
+        self.paths = git("ls-tree", "-r", "--name-only", commit, "crates").split("\n") if commit else glob.glob("crates/**/*", recursive=True)
+
+    def text(self, path):
+        return shown(self.commit, path) if self.commit else read(path)
+
+    def path(self, file):
+        """A folder that only groups modules has a capital since."""
+        same = [p for p in self.paths if p == file] or [p for p in self.paths if p.lower() == file.lower()]
+        if len(same) != 1:
+            raise SystemExit(f"turn_edits: {file} is gone")
+        return same[0]
+
+
+def place(edit, edits):
+    """Where the edit stands now: its crate may have another name since."""
+    if os.path.exists(edit.path):
+        return edit.path
+    known, name = {e.path for e in edits}, os.path.basename(edit.path)
+    new = [p for p in glob.glob("crates/*/must-fail/" + name) if p not in known]
+    if len(new) != 1:
+        raise SystemExit(f"turn_edits: {edit.path} is gone")
+    return new[0]
 
 
 def words(line):
@@ -195,8 +215,8 @@ def short(text, old, new, was):
     return min(found)[3:] if found else (old, new)
 
 
-def texts_of(edit, base, runs):
-    """What the edit says today, from the differing runs of lines in its file; None where it has to be written by hand."""
+def texts_of(edit, file, base, runs):
+    """What the edit says today of the file, from the differing runs of lines in it; None where it has to be written by hand."""
     after = put(base, runs)
     # An edit that fits as it stands keeps its text.
     if applied(base, edit.pairs) == after:
@@ -213,7 +233,7 @@ def texts_of(edit, base, runs):
             return None
     if text != after:
         return None
-    name = os.path.relpath(today(edit.file), os.path.join("crates", edit.crate))
+    name = os.path.relpath(file, os.path.join("crates", edit.crate))
     return f"file: {name}\n" + "".join(f"old: {x}\nnew: {y}\n" for _, x, y in pairs)
 
 
@@ -236,20 +256,25 @@ def main():
     if len(sys.argv) != 2:
         print(__doc__)
         return 2
-    landed, turned = read("docs/PORT.md").split("\n")[:2]
+    if os.path.exists("docs/PORT.md"):
+        landed, commit = read("docs/PORT.md").split("\n")[:2]
+    else:
+        landed, commit = git("rev-parse", "HEAD").strip(), None
+    turned = Turned(commit)
+    respell = shown(commit, "tools/respell.py") if commit else read("tools/respell.py")
     work = os.path.abspath(sys.argv[1])
     os.makedirs(work, exist_ok=True)
     edits, said = landed_edits(landed), collections.Counter()
     for n, copy in enumerate(in_copies(edits)):
         to = os.path.join(work, str(n))
-        turn(copy, to, landed, turned)
+        turn(copy, to, landed, respell)
         for file in sorted({e.file for e in copy}):
             here = sorted((e for e in copy if e.file == file), key=lambda e: min(e.lines))
-            now = today(file)
-            base = shown(turned, now)
+            before, now = shown(landed, file), turned.path(file)
+            base = turned.text(now)
             runs = changes(base, read(os.path.join(to, now)))
             # The edits of a file stand in it in the order of their lines; so do the differences.
-            sizes = [len(changes(shown(landed, file), applied(shown(landed, file), e.pairs))) for e in here]
+            sizes = [len(changes(before, applied(before, e.pairs))) for e in here]
             if len(here) == len(runs):
                 sizes = [1] * len(here)
             if sum(sizes) != len(runs):
@@ -258,13 +283,13 @@ def main():
                 continue
             for e, size in zip(here, sizes):
                 mine, runs = runs[:size], runs[size:]
-                text = texts_of(e, base, mine)
+                text = texts_of(e, now, base, mine)
                 if text is None:
                     print(f"by hand: {e.path}: {mine}")
                     said["by hand"] += 1
                     continue
                 said["as it stood" if text == e.text else "turned"] += 1
-                with open(e.path, "w", encoding="utf-8") as f:
+                with open(place(e, edits), "w", encoding="utf-8") as f:
                     f.write(text)
     print(", ".join(f"{n} {what}" for what, n in sorted(said.items())))
     return 0
