@@ -1,5 +1,6 @@
 // The by-value step. See specs/ for what it answers.
 #![tactic(auto)]
+
 mod judge;
 pub mod step;
 
