@@ -7,7 +7,7 @@ use borrow.Author.Rules.{rules}
 use lib.ListN.{set}
 use Rattle.table.specs.Table.{at}
 use Rattle.request.specs.Climb.{stays, last}
-use Rattle.request.proofs.climb.climb.Invariants.{same, Higher, goes_up}
+use Rattle.request.proofs.climb.climb.Invariants.{same, higher, goes_up}
 use Rattle.request.proofs.climb.climb.Goals as goal
 
 pub returns-then-v-current : goal.returns-then-v-current
@@ -25,7 +25,7 @@ returns-then-r-ge-RESOURCES c =
     let rose : at h.current h.at < a.v = search rules in
     λ queue lengths owns k b r.
     let w = h.invariant.3 queue lengths owns k b r in
-    w.1 1 (set h.current h.at a.v) (last (Higher a.holders.now a.waits.now a.v queue lengths owns h.current h.at h.n w.0 rose) (λ d. absurd (omega (arith, d, rose))) (search rules))
+    w.1 1 (set h.current h.at a.v) (last (higher a.holders.now a.waits.now a.v queue lengths owns h.current h.at h.n w.0 rose) (λ d. absurd (omega (arith, d, rose))) (search rules))
 
 pub loop-current-preserved : goal.loop-current-preserved
 loop-current-preserved c =

@@ -33,8 +33,8 @@ module _ (holders waits : List ℕ) (v : ℕ) where
     pub same : Rises queue lengths owns values x n → v ≤ at values x → Afresh (at values x)
     same (k, b, rises low m up) h = let e : max (at values x) v ≡ at values x = omega (arith, h) in rw e at m
 
-    pub Higher : Rises queue lengths owns values x n → at values x < v → Afresh v
-    Higher (k, b, rises low m up) h = let e : max (at values x) v ≡ v = omega (arith, h) in rw e at m
+    pub higher : Rises queue lengths owns values x n → at values x < v → Afresh v
+    higher (k, b, rises low m up) h = let e : max (at values x) v ≡ v = omega (arith, h) in rw e at m
 
     pub rises_on : (y : ℕ) → at values x < v → at waits x < 16 → y ≡ at holders (at waits x) → Rises queue lengths owns values x n → Rises queue lengths owns (set values x v) y (n + 1)
     rises_on y rose wait e (k, b, rises {k = j} low m up) = (j, omega arith, rw e (up rose wait))
@@ -65,7 +65,7 @@ module _ (holders waits : List ℕ) (v : ℕ) where
         further : (queue lengths owns : List ℕ) → Way queue lengths owns values x n → Way queue lengths owns (set values x v) y (n + 1)
         further queue lengths owns (r, g) = (
           rises_on queue lengths owns values x n y rose wait e r,
-          λ i f w. let q : n + 1 + i ≡ n + suc i = omega arith in rw q (g (suc i) f (on (Higher queue lengths owns values x n r rose) (λ d. absurd (omega (arith, d, rose))) wait (rw e at w))),
+          λ i f w. let q : n + 1 + i ≡ n + suc i = omega arith in rw q (g (suc i) f (on (higher queue lengths owns values x n r rose) (λ d. absurd (omega (arith, d, rose))) wait (rw e at w))),
         )
 
 abbrev pub invariant-loop-current : goal.invariant-loop-current
