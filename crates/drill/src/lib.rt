@@ -1,5 +1,6 @@
 // Records in, lines out, over slices. See specs/ for what the lines are.
 #![tactic(auto)]
+
 pub mod printing;
 
 ghost use Rattle.std.specs.Prelude.{◌≡◌, [], ◌+◌, ◌≤◌, length};
@@ -16,7 +17,7 @@ use table::Table;
 
 // What is carried from part to part of the input: the table, the number of the last record, and the bytes of a record that
 // are there already: `held` of them, 0 to 3. The others are zero.
-#[derive(Drop)]
+#[derive(Clone, Copy)]
 pub struct Bench {
     pub table: Table,
     pub number: u64,
@@ -27,14 +28,14 @@ pub struct Bench {
 }
 
 // The bench after a byte, and the line that the byte completed, or an empty text.
-#[derive(Drop)]
+#[derive(Clone, Copy)]
 pub struct Fed {
     pub bench: Bench,
     pub text: Text,
 }
 
 // The bench after a part of the input, how many bytes that part has, and how many bytes its lines have.
-#[derive(Drop)]
+#[derive(Clone, Copy)]
 pub struct Part {
     pub bench: Bench,
     pub used: usize,

@@ -4,12 +4,12 @@ ghost use Rattle.drill.specs.Bytes.{after};
 ghost use Rattle.drill.specs.Parts.{Prints, counted, last_whole};
 
 use crate::{Bench, drill, next};
-use libc::STDOUT_FILENO;
 use listing::{Text, header};
+use std::io::{Read, writer};
 use streams::{fail, output_failed, write_all};
 
 // The bench after the first `used` bytes of a part of the input, and whether their lines are all written.
-#[derive(Drop)]
+#[derive(Clone, Copy)]
 pub struct Printed {
     pub bench: Bench,
     pub used: usize,
@@ -17,7 +17,7 @@ pub struct Printed {
 }
 
 // The bench after a read, whether to go on, and whether the input came to its end and all lines are written.
-#[derive(Drop)]
+#[derive(Clone, Copy)]
 struct Turn {
     bench: Bench,
     more: bool,
@@ -25,7 +25,7 @@ struct Turn {
 }
 
 // How many records a listing has, and whether it is whole.
-#[derive(Drop)]
+#[derive(Clone, Copy)]
 pub struct Listed {
     pub records: u64,
     pub whole: bool,
@@ -42,11 +42,12 @@ fn text_len(len: usize) -> usize
 }
 
 // Prints a text after so many records, and answers whether it is written.
-pub fn print(text: Text, records: u64) -> bool {
+pub fn print<P: Print + Eprint>(rt: &P, text: Text, records: u64) -> bool {
     let bytes = text.bytes;
     let len = text_len(text.len);
-    if write_all(STDOUT_FILENO, &bytes[..len]) < len {
-        output_failed(records);
+    let put = write_all(&mut writer(rt), &bytes[..len]);
+    if let Some(error) = put.failed {
+        output_failed(rt, records, error);
         return false;
     }
     true
@@ -76,15 +77,16 @@ fn last_whole(n: u64, bytes: &[u8]) -> u64
 }
 
 // Prints the lines of as much of a part of the input as the room holds, which is some of it.
-fn print_start(s: Bench, input: &[u8]) -> Printed
+fn print_start<P: Print + Eprint>(rt: &P, s: Bench, input: &[u8]) -> Printed
     ensures { Prints s input.now result }
 {
     let mut out = io::large_buffer();
     let part = drill(s, input, &mut out);
     let len = part.len;
-    let done = write_all(STDOUT_FILENO, &out[..len]);
-    if done < len {
-        output_failed(last_whole(s.number, &out[..done]));
+    let put = write_all(&mut writer(rt), &out[..len]);
+    let done = put.bytes;
+    if let Some(error) = put.failed {
+        output_failed(rt, last_whole(s.number, &out[..done]), error);
         return Printed {
             bench: s,
             used: part.used,
@@ -100,13 +102,13 @@ fn print_start(s: Bench, input: &[u8]) -> Printed
 }
 
 // Prints the lines of all of a part of the input: it goes on from where it stopped.
-pub fn print_part(s: Bench, input: &[u8]) -> Printed
+pub fn print_part<P: Print + Eprint>(rt: &P, s: Bench, input: &[u8]) -> Printed
     ensures { result.well ≡ true → result.bench ≡ after s input.now }
 {
     let mut bench = s;
     let mut used = 0;
     while used < input.len() {
-        let start = print_start(bench, &input[used..]);
+        let start = print_start(rt, bench, &input[used..]);
         if !start.well {
             return start;
         }
@@ -121,12 +123,12 @@ pub fn print_part(s: Bench, input: &[u8]) -> Printed
 }
 
 // Reads once and prints the lines of what came.
-fn print_some(fd: i32, name: &[u8], s: Bench) -> Turn {
+fn print_some<P: Print + Eprint, R: Read>(rt: &P, from: &mut R, name: &[u8], s: Bench) -> Turn {
     let mut input = io::large_buffer();
-    let got = streams::read(fd, &mut input);
+    let got = streams::read(from, &mut input);
     let n = got.bytes;
-    if got.failed {
-        fail(name, s.number);
+    if let Some(error) = got.failed {
+        fail(rt, name, s.number, error);
         return Turn {
             bench: s,
             more: false,
@@ -140,7 +142,7 @@ fn print_some(fd: i32, name: &[u8], s: Bench) -> Turn {
             whole: true,
         };
     }
-    let printed = print_part(s, &input[..n]);
+    let printed = print_part(rt, s, &input[..n]);
     let bench = printed.bench;
     Turn {
         bench: bench,
@@ -149,22 +151,22 @@ fn print_some(fd: i32, name: &[u8], s: Bench) -> Turn {
     }
 }
 
-// Reads from the descriptor to its end and prints the listing. The name is what a failure to read is said of. A proved loop has to end, and
+// Reads to the end and prints the listing. The name is what a failure to read is said of. A proved loop has to end, and
 // nothing says that an input does: the turns count down from a number that no run uses up.
-pub fn print_listing(fd: i32, name: &[u8]) -> Listed {
+pub fn print_listing<P: Print + Eprint, R: Read>(rt: &P, from: &mut R, name: &[u8]) -> Listed {
     let mut bench = Bench::start();
     let mut whole = false;
-    let mut more = print(header(), 0);
+    let mut more = print(rt, header(), 0);
     let mut turns = u64::MAX;
     while turns > 0 && more {
         turns -= 1;
-        let turn = print_some(fd, name, bench);
+        let turn = print_some(rt, from, name, bench);
         bench = turn.bench;
         more = turn.more;
         whole = turn.whole;
     }
     if whole {
-        whole = print(bench.ending(), bench.number);
+        whole = print(rt, bench.ending(), bench.number);
     }
     Listed {
         records: bench.number,

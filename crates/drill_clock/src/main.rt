@@ -1,6 +1,7 @@
 // Brings the clock to 65,534 by records of its own and tries the edge there. The lines it prints go on from there: record 65,535 is
 // the last that is accepted.
 #![tactic(auto)]
+
 use drill::printing::print;
 use drill::{Bench, Fed, feed};
 use listing::header;
@@ -10,7 +11,7 @@ use locks::Record;
 const SETS: u32 = 65533;
 
 // A bench, and whether its lines are all written.
-#[derive(Drop)]
+#[derive(Clone, Copy)]
 struct Shown {
     bench: Bench,
     well: bool,
@@ -25,13 +26,13 @@ fn give(s: Bench, kind: u8, thread: u8, argument: u8) -> Fed {
 }
 
 // The same, with its line printed if those before it were.
-fn show(s: Shown, kind: u8, thread: u8, argument: u8) -> Shown {
+fn show<P: Print + Eprint>(rt: &P, s: Shown, kind: u8, thread: u8, argument: u8) -> Shown {
     let before = s.bench;
     let fed = give(before, kind, thread, argument);
     let after = fed.bench;
     Shown {
         bench: after,
-        well: s.well && print(fed.text, before.number),
+        well: s.well && print(rt, fed.text, before.number),
     }
 }
 
@@ -48,26 +49,26 @@ fn age(s: Bench) -> Bench {
 }
 
 // At 65,535 each kind gives 5, unless 2, 3 or 4 catches it.
-fn stopped(s: Shown) -> Shown {
-    let created = show(s, Record::CREATE, 2, 9);
-    let exited = show(created, Record::EXIT, 0, 0);
-    let set = show(exited, Record::SET, 0, 9);
-    let requested = show(set, Record::P, 0, 0);
-    let released = show(requested, Record::V, 0, 0);
-    let unknown = show(released, 6, 0, 0);
-    let nobody = show(unknown, Record::CREATE, 32, 9);
-    show(nobody, Record::P, 0, 16)
+fn stopped<P: Print + Eprint>(rt: &P, s: Shown) -> Shown {
+    let created = show(rt, s, Record::CREATE, 2, 9);
+    let exited = show(rt, created, Record::EXIT, 0, 0);
+    let set = show(rt, exited, Record::SET, 0, 9);
+    let requested = show(rt, set, Record::P, 0, 0);
+    let released = show(rt, requested, Record::V, 0, 0);
+    let unknown = show(rt, released, 6, 0, 0);
+    let nobody = show(rt, unknown, Record::CREATE, 32, 9);
+    show(rt, nobody, Record::P, 0, 16)
 }
 
-fn main() {
+fn main(rt: HostRuntime) {
     let created = give(Bench::start(), Record::CREATE, 0, 1);
     let aged = Shown {
         bench: age(created.bench),
-        well: print(header(), 0),
+        well: print(&rt, header(), 0),
     };
-    let last = stopped(show(aged, Record::CREATE, 1, 9));
+    let last = stopped(&rt, show(&rt, aged, Record::CREATE, 1, 9));
     let bench = last.bench;
     if last.well {
-        streams::close_output(bench.number);
+        streams::close_output(&rt, bench.number);
     }
 }

@@ -1,11 +1,11 @@
 // Reads records from standard input, from the empty table on, and prints the listing of their answers.
 #![tactic(auto)]
-use drill::printing::print_listing;
-use libc::STDIN_FILENO;
 
-fn main() {
-    let listed = print_listing(STDIN_FILENO, b"standard input");
+use drill::printing::print_listing;
+
+fn main(rt: HostRuntime) {
+    let listed = print_listing(&rt, &mut rt.stdin(), b"standard input");
     if listed.whole {
-        streams::close_output(listed.records);
+        streams::close_output(&rt, listed.records);
     }
 }
