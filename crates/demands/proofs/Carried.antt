@@ -49,7 +49,7 @@ module _ {t : Table} {s : State} (a : Agrees t s) (g : Good t) where
     where
       says : (x : Thread) → Says (slot (with_slot t th n) x) x (ev ∷ s)
       says x = by_cases (ℕ_discrete x th)
-          (λ e. rw e (subst (λ (m : Slot). Says m th (ev ∷ s)) (sym (slot_there t th n g.shape low)) here))
+          (λ e. subst (λ (y : Thread). Says (slot (with_slot t th n) y) y (ev ∷ s)) (sym e) (subst (λ (m : Slot). Says m th (ev ∷ s)) (sym (slot_there t th n g.shape low)) here))
           (λ d. subst (λ (m : Slot). Says m x (ev ∷ s)) (sym (slot_else t th n x d)) (others x (slot t x) d (a.live x, a.own x, a.totals x)))
 
   -- with what f makes of the queue of cs, and these totals, it agrees with a state that has such a queue, and says this of the threads

@@ -27,12 +27,12 @@ use Rattle.demands.proofs.Same.{highest_map, same_cprec}
 heir_chosen : {t : Table} {s : State} → Reached t s → (cs : ℕ) → Chosen s cs (heir t (queues t cs))
 heir_chosen {t} {s} r cs = go (heir t (queues t cs)) refl (heir_follows t (queues t cs) (r.right.1.bare.queues_right.differ cs))
   where
-    waiting : (u : ℕ) → table.waits t u cs ↔ Waits s u cs
+    waiting : (u : ℕ) → table.Waits t u cs ↔ Waits s u cs
     waiting u = same_queues r (λ q. WaitsIn q u cs)
 
     go : (next : Option ℕ) → heir t (queues t cs) ≡ next → Follows (queues t cs) next → Chosen s cs next
     go none e f = λ u w. f u ((waiting u).1 w)
-    go (some b) e f = highest_map (table.cprec t) (Cprec s) (λ u. table.waits t u cs) (λ u. Waits s u cs) waiting
+    go (some b) e f = highest_map (table.Cprec t) (Cprec s) (λ u. table.Waits t u cs) (λ u. Waits s u cs) waiting
         (λ u w. same_cprec r u ((ordered r).entries cs u ((waiting u).0 w).0)) b (heir_topmost t (good r) cs b e)
 
 -- there is one choice

@@ -11,7 +11,7 @@ use prog.Routine.{Routine}
 use types.Logic.{Logic}
 use contract.Monad.{Fun, fact}
 use contract.Lifetimes.{Lfts}
-use denote.Ref.{Bor}
+use denote.Ref.{Bor, MutBor}
 use denote.Triple.Entry.{Res}
 use denote.Triple.Clauses.{Ended, AtExit, at_exit, ClausesAt}
 use Rattle.table.specs.declared.Table.{Table}
@@ -39,7 +39,7 @@ module _ {M : Type 1} {𝓤 : Ura M} (𝓛 : Logic 𝓤) (at_mem : Memory → SP
   Says c g r e φ = (c.requires g ≡ emp 𝓤) × (c.ensures g r e ≡ fact 𝓤 φ)
 
   -- wherever the kernel keeps its table, which holds t.now when it is lent, for a lifetime κ:
-  module _ (κ : Lft) (t : Bor Table) where
+  module _ (κ : Lft) (t : MutBor Table) where
     -- the table is emptied, and holds u
     pub empty_says : (u : Table) → Says (empty.clauses 𝓛 at_mem run (κ, tt) (t, tt)) tt tt (at_exit empty.ended (κ, tt) (t, tt) (u, tt)) (EmptySays t.now u)
     empty_says u = (refl, refl)
@@ -48,7 +48,8 @@ module _ {M : Type 1} {𝓤 : Ura M} (𝓛 : Logic 𝓤) (at_mem : Memory → SP
     pub step_says : (e : Record) (r : Answer) (u : Table) → Says (step.clauses 𝓛 at_mem run (κ, tt) (t, (e, tt))) tt r (at_exit step.ended (κ, tt) (t, (e, tt)) (u, (tt, tt))) (StepSays t.now e (record { answer = r; table = u }))
     step_says e r u = (refl, refl)
 
-    -- a query answers r; the table, which is lent as `&`, holds what it held
+  -- a query answers r; the table, which is lent as `&`, holds what it held
+  module _ (κ : Lft) (t : Bor Table) where
     pub running_says : (r : RunningAnswer) → Says (running.clauses 𝓛 at_mem run (κ, tt) (t, tt)) tt r (at_exit running.ended (κ, tt) (t, tt) (tt, tt)) (RunningSays t.now (record { answer = r; table = t.now }))
     running_says r = (refl, refl)
 
@@ -59,10 +60,11 @@ module _ {M : Type 1} {𝓤 : Ura M} (𝓛 : Logic 𝓤) (at_mem : Memory → SP
     resource_says cs r = (refl, refl)
 
   -- wherever it keeps its log, which holds l.now when it is lent: the call answers r, and the log holds after
-  module _ (κ : Lft) (l : Bor (List ℕ)) where
+  module _ (κ : Lft) (l : MutBor (List ℕ)) where
     pub log_says : (n : ℕ) (e : Record) (r : ℕ) (after : List ℕ) → Says (log.clauses 𝓛 at_mem run (κ, tt) (l, (n, (e, tt)))) tt r (at_exit log.ended (κ, tt) (l, (n, (e, tt))) (after, (tt, (tt, tt)))) (LogSays l.now n e (record { number = r; log = after }))
     log_says n e r after = (refl, refl)
 
-    -- a log is read back, and gives r; the log, which is lent as `&`, holds what it held
+  -- a log is read back, and gives r; the log, which is lent as `&`, holds what it held
+  module _ (κ : Lft) (l : Bor (List ℕ)) where
     pub replay_says : (r : Replayed) → Says (replay.clauses 𝓛 at_mem run (κ, tt) (l, tt)) tt r (at_exit replay.ended (κ, tt) (l, tt) (tt, tt)) (Gives l.now r)
     replay_says r = (refl, refl)

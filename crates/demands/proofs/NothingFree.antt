@@ -24,7 +24,7 @@ use Rattle.demands.proofs.AnyTable.{same_step as any_step}
 -- after the calls: the table, and what is left by whatever is called next
 pub record AsNamed (c : Calls) (t : Table) (ks : List Call) : Type 0 where
   pub table : table_after c t ks ≡ table_after the_calls t ks
-  pub Step : (e : Record) → AnyRecord e → c.step (table_after c t ks) e ≡ the_calls.step (table_after the_calls t ks) e
+  pub step : (e : Record) → AnyRecord e → c.step (table_after c t ks) e ≡ the_calls.step (table_after the_calls t ks) e
   pub running : c.running (table_after c t ks) ≡ the_calls.running (table_after the_calls t ks)
   pub thread : (th : ℕ) → th ≤ 255 → c.thread (table_after c t ks) th ≡ the_calls.thread (table_after the_calls t ks) th
   pub resource : (cs : ℕ) → cs ≤ 255 → c.resource (table_after c t ks) cs ≡ the_calls.resource (table_after the_calls t ks) cs
@@ -118,7 +118,7 @@ module _ (c : Calls) (d₁ : Demand1 c) (d₂ : Demand2 c) (t : Table) (held : A
 pub nothing_free : (c : Calls) → Demand1 c → Demand2 c → (t : Table) → AnyTable t → (ks : List Call) → AnyCalls ks → AsNamed c t ks
 nothing_free c d₁ d₂ t held ks any = record {
   table = (same c d₁ d₂ t held ks any).1;
-  Step = same_step c d₁ d₂ t held ks any;
+  step = same_step c d₁ d₂ t held ks any;
   running = same_runner c d₁ d₂ t held ks any;
   thread = same_thread c d₁ d₂ t held ks any;
   resource = same_resource c d₁ d₂ t held ks any;

@@ -33,7 +33,7 @@ use Rattle.demands.proofs.Chosen.{writes_named}
 created_new : {t : Table} {th prio : ℕ} → Permits t (Create th prio) → ¬ (th ∈ live t)
 created_new (create low small new) = new
 
-released_held : {t : Table} {th cs : ℕ} {next : Option ℕ} → Permits t («V» th cs next) → table.holds t th cs
+released_held : {t : Table} {th cs : ℕ} {next : Option ℕ} → Permits t («V» th cs next) → table.Holds t th cs
 released_held (release runs held f) = held
 
 -- every permitted event but Create is one of the running thread
@@ -46,7 +46,7 @@ caller_runs (of_release k c) (release runs held f) n = runs
 
 module _ {t : Table} {s : State} (r : Reached t s) where
   -- who holds, what leads where and who may follow is the same in both
-  same_holds : (th : Thread) (cs : Resource) → table.holds t th cs ↔ Holds s th cs
+  same_holds : (th : Thread) (cs : Resource) → table.Holds t th cs ↔ Holds s th cs
   same_holds th cs = same_queues r (λ q. HoldsIn q th cs)
 
   same_chain : (cs : Resource) (th : Thread) → (RAGOf (queues t) ⁺) (C cs) (T th) ↔ (RAG s ⁺) (C cs) (T th)

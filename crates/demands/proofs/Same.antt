@@ -51,7 +51,7 @@ module _ {t : Table} {s : State} (r : Reached t s) where
   behind_own th u d = r.agrees.own u (dependant_live (orderly s (ordered r)) (leads (paper.wq s) d))
 
   -- a live thread has the same current precedence
-  pub same_cprec : (th : Thread) → th ∈ threads s → (m : Precedence) → table.cprec t th m ↔ paper.cprec s th m
+  pub same_cprec : (th : Thread) → th ∈ threads s → (m : Precedence) → table.Cprec t th m ↔ paper.Cprec s th m
   same_cprec th l m = (
     λ h. own_cprec (paper.wq s) (table.own t) (λ u. prec u s) th (r.agrees.own th l) (behind_own th) m (over.0 h),
     λ h. over.1 (own_cprec (paper.wq s) (λ u. prec u s) (table.own t) th (sym (r.agrees.own th l)) (λ u d. sym (behind_own th u d)) m h),
@@ -67,8 +67,8 @@ module _ {t : Table} {s : State} (r : Reached t s) where
   -- the same thread runs
   pub same_running : (th : Thread) → (th ∈ table.running t) ↔ (th ∈ paper.running s)
   same_running th = (
-    highest_map (table.cprec t) (paper.cprec s) (table.ready t) (paper.ready s) same_ready (λ u w. same_cprec u ((r.agrees.live u).0 w.0)) th,
-    highest_map (paper.cprec s) (table.cprec t) (paper.ready s) (table.ready t) (λ u. ((same_ready u).1, (same_ready u).0)) (λ u w m. let c = same_cprec u w.0 m in (c.1, c.0)) th,
+    highest_map (table.Cprec t) (paper.Cprec s) (table.ready t) (paper.ready s) same_ready (λ u w. same_cprec u ((r.agrees.live u).0 w.0)) th,
+    highest_map (paper.Cprec s) (table.Cprec t) (paper.ready s) (table.ready t) (λ u. ((same_ready u).1, (same_ready u).0)) (λ u w m. let c = same_cprec u w.0 m in (c.1, c.0)) th,
   )
 
   -- who is named as running in the table is named as running in the state

@@ -39,22 +39,22 @@ use Rattle.demands.specs.Kept.{AnyLog}
 -- An array of numbers of one width, of which `highest` is the highest.
 module _ (w : Width) (highest : ℕ) (fits : (x : ℕ) → (x < 2 ^ bits w) ↔ (x ≤ highest)) where
   -- its elements are in range
-  in_range : (xs : List ℕ) (us : List Val) → shadow (each ℕ (UInt w).own_val (map (λ (x : ℕ). x) xs) us) → (i : ℕ) → at xs i ≤ highest
+  in_range : (xs : List ℕ) (us : List Val) → shadow (each ℕ (UInt w).own_val xs us) → (i : ℕ) → at xs i ≤ highest
   in_range [] us p i = omega arith
   in_range (x ∷ xs) [] p i = absurd p
   in_range (x ∷ xs) (u ∷ us) p zero = (fits x).0 p.0.1
   in_range (x ∷ xs) (u ∷ us) p (suc i) = in_range xs us p.1 i
 
   -- elements in range have their values in memory
-  in_memory : (xs : List ℕ) → ((i : ℕ) → at xs i ≤ highest) → shadow (each ℕ (UInt w).own_val (map (λ (x : ℕ). x) xs) (map (vint w) (map (λ (x : ℕ). x) xs)))
+  in_memory : (xs : List ℕ) → ((i : ℕ) → at xs i ≤ highest) → shadow (each ℕ (UInt w).own_val xs (map (vint w) xs))
   in_memory [] h = tt
   in_memory (x ∷ xs) h = ((refl, (fits x).1 (h 0)), in_memory xs (λ i. h (suc i)))
 
   -- what its type says is `Array`
-  array : (n : ℕ) (xs : List ℕ) → Is (value.Array (UInt w) n) (map (λ (x : ℕ). x) xs) (value.array_val (map (vint w) (map (λ (x : ℕ). x) xs)) ∷ []) ↔ Array n highest xs
+  array : (n : ℕ) (xs : List ℕ) → Is (value.Array (UInt w) n) xs (value.array_val (map (vint w) xs) ∷ []) ↔ Array n highest xs
   array n xs = (
     λ p. record { size = typed_size w n xs p; in_range = in_range xs p.0 p.1.1 },
-    λ a. (map (vint w) (map (λ (x : ℕ). x) xs), ((refl, length-map xs (λ (x : ℕ). x) ∙ a.size), in_memory xs a.in_range)),
+    λ a. (map (vint w) xs, ((refl, a.size), in_memory xs a.in_range)),
   )
 
 -- a number of one byte, as a thread or a resource that is asked for, and one of two
@@ -123,4 +123,4 @@ pub replay_takes : (κ : Lft) → types_at (replay.signature).params (κ, tt) �
 replay_takes κ = refl
 
 pub read_log_is : (κ : Lft) (l : Bor (List ℕ)) → Bytes l.now → Is (ShrSlice (named 0) κ (UInt w8)) l (shr_slice_vals l) ↔ AnyLog l.now
-read_log_is = log_is
+read_log_is κ l bytes = ((λ p. record { bytes = bytes; fits = omega (arith, p.0.1.1) }), λ a. let fits = a.fits in ((refl, (omega arith, omega arith)), tt))

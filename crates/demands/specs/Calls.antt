@@ -15,7 +15,7 @@ pub record Left (A : Type 0) : Type 0 where
 -- five functions in the places of the calls: each takes what the lent table holds, and its other arguments
 pub record Calls : Type 0 where
   pub empty : Table → Table
-  pub Step : Table → Record → Left Answer
+  pub step : Table → Record → Left Answer
   pub running : Table → Left RunningAnswer
   pub thread : Table → ℕ → Left ThreadAnswer
   pub resource : Table → ℕ → Left ResourceAnswer

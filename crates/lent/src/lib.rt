@@ -2,6 +2,7 @@
 // compiled step then has one caller, in which it is inlined, and the table is copied into it and out of it and no more often
 // (docs/DECISIONS.md, "What a call costs").
 #![tactic(auto)]
+
 ghost use Rattle.std.specs.Prelude.{◌≡◌};
 ghost use Rattle.locks.specs.Answers.{answer_of};
 

@@ -80,5 +80,5 @@ module _ (i j : Thread) (earlier : i < j) (fixed : j < 16) where
   pub own_falls : Higher (own started.table i) (own started.table j)
   own_falls = above_as (fixed_own i (omega arith)) (fixed_own j fixed) above
 
-  pub current_falls : (m n : Precedence) → table.cprec started.table i m → table.cprec started.table j n → Higher m n
+  pub current_falls : (m n : Precedence) → table.Cprec started.table i m → table.Cprec started.table j n → Higher m n
   current_falls m n a b = above_as (own_alone (queues started.table) no_queue (own started.table) i m a) (own_alone (queues started.table) no_queue (own started.table) j n b) own_falls

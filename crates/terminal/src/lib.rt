@@ -1,6 +1,7 @@
 // The terminal's own tasks, a layer above the lock table: sixteen that every shipment starts with, and spare ones. All that
 // its proofs know of the step is what that states. See specs/ for what each function leaves.
 #![tactic(auto)]
+
 pub mod spare;
 pub mod start;
 

@@ -1,2 +1,0 @@
--- What the proofs of the queries share.
-pub mod Query
