@@ -3,7 +3,7 @@
 // ./run, which sees the line, ends with a status that is not 0.
 #![tactic(auto)]
 
-ghost use Rattle.std.specs.Prelude.{◌≡◌};
+ghost use Rattle.std.specs.Prelude.{◌≡◌, IsNone, length};
 ghost use Rattle.io.specs.Counts.{IsPrefixLen};
 ghost use Rattle.streams.specs.Errors.{passing};
 
@@ -87,7 +87,8 @@ pub fn read<R: Read>(input: &mut R, room: &mut [u8]) -> Got
 
 // Writes all of the bytes in their order, and answers how many were written: fewer than all if the next ones can't be.
 pub fn write_all<W: Write>(output: &mut W, bytes: &[u8]) -> Put
-    ensures { IsPrefixLen result.bytes bytes.now }
+    ensures counted { IsPrefixLen result.bytes bytes.now }
+    ensures all { IsNone result.failed → result.bytes ≡ length bytes.now }
 {
     let mut done = 0;
     let mut tries = u64::MAX;
