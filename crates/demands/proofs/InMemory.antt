@@ -7,7 +7,7 @@ use native.Mathlib.Omega.{arith}
 use Rattle.protocol.specs.Events.{Precedence}
 use Rattle.table.specs.declared.Table.{Table}
 use Rattle.table.specs.declared.Slot.{Slot}
-use Rattle.table.specs.Table.{at, live, stored}
+use Rattle.table.specs.Table.{at, stored}
 use Rattle.table.specs.Sound.{Bare}
 use Rattle.table.specs.Code.Places.{entry}
 use Rattle.table.specs.Code.Shape.{Shape}

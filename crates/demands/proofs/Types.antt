@@ -1,10 +1,9 @@
 -- The values that the demands speak of are the ones that the calls' own types hold, no more and no fewer: `Is` is what a type says of a value and its bytes. Assumes nothing.
 use Prim.Native.Nat.{ℕ, zero, suc, ◌^◌, ◌≤◌, ◌<◌}
-use mathlib.Core.Path.{◌≡◌, refl, ◌∙◌}
+use mathlib.Core.Path.{◌≡◌, refl}
 use mathlib.Core.Logic.{◌↔◌}
 use mathlib.Core.List.{List, [], ◌∷◌, map}
 use native.Mathlib.Omega.{arith}
-use lib.ListN.{length, length-map}
 use mir.Syntax.{Width, w8, w16, w32, named}
 use mir.Val.{Val, vint, bits}
 use base.Fml.{Lft}

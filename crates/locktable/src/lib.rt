@@ -36,19 +36,19 @@ pub fn locktable_empty(t: &mut Table)
 
 // The queries: the lent table is as it was.
 pub fn locktable_running(t: &Table) -> RunningAnswer
-    ensures { (result ≡ running_answer t.now) × (t.now ≡ t.now) }
+    ensures { (result ≡ running_answer t.now) × (t.exit.now ≡ t.entry.now) }
 {
     running_of(*t)
 }
 
 pub fn locktable_thread(t: &Table, thread: u8) -> ThreadAnswer
-    ensures { (result ≡ thread_answer t.now thread) × (t.now ≡ t.now) }
+    ensures { (result ≡ thread_answer t.now thread) × (t.exit.now ≡ t.entry.now) }
 {
     thread_of(*t, thread)
 }
 
 pub fn locktable_resource(t: &Table, resource: u8) -> ResourceAnswer
-    ensures { (result ≡ resource_answer t.now resource) × (t.now ≡ t.now) }
+    ensures { (result ≡ resource_answer t.now resource) × (t.exit.now ≡ t.entry.now) }
 {
     resource_of(*t, resource)
 }

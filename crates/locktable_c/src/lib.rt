@@ -36,21 +36,21 @@ pub extern "C" fn locktable_empty(t: &mut Table)
 // The queries: the lent table is as it was.
 #[unsafe(no_mangle)]
 pub extern "C" fn locktable_running(t: &Table) -> RunningAnswer
-    ensures { (result ≡ running_answer t.now) × (t.now ≡ t.now) }
+    ensures { (result ≡ running_answer t.now) × (t.exit.now ≡ t.entry.now) }
 {
     locktable::locktable_running(t)
 }
 
 #[unsafe(no_mangle)]
 pub extern "C" fn locktable_thread(t: &Table, thread: u8) -> ThreadAnswer
-    ensures { (result ≡ thread_answer t.now thread) × (t.now ≡ t.now) }
+    ensures { (result ≡ thread_answer t.now thread) × (t.exit.now ≡ t.entry.now) }
 {
     locktable::locktable_thread(t, thread)
 }
 
 #[unsafe(no_mangle)]
 pub extern "C" fn locktable_resource(t: &Table, resource: u8) -> ResourceAnswer
-    ensures { (result ≡ resource_answer t.now resource) × (t.now ≡ t.now) }
+    ensures { (result ≡ resource_answer t.now resource) × (t.exit.now ≡ t.entry.now) }
 {
     locktable::locktable_resource(t, resource)
 }
