@@ -5,7 +5,7 @@ usage: python3 tools/respell.py       at the top, once, right after port.py
 
 A type (data, record, or a definition whose signature ends in Type) is in upper camel case, any other name is in snake case,
 and a folder that only groups modules is in upper camel case. Names that Rattle makes (of goals and loops), functions of src/
-and their parameters keep theirs. It says which new names fall together with a name that stood there, and stops before it writes.
+and their parameters keep theirs. With --show it says which new names fall together with a name that stood there, and writes nothing.
 """
 
 import collections

@@ -9,8 +9,8 @@ abbrev pub entries_of : ℕ → ℕ
 entries_of n = cond (leb n 32) n 0
 
 -- the numbers of the waiters among the first n places of the queue of r
-abbrev pub Waiters_numbers : List ℕ → List ℕ → ℕ → ℕ → SetOf ℕ
-Waiters_numbers queue current r n = λ a. (i : ℕ) × (1 ≤ i) × (i < n) × (a ≡ at current (entry queue r i))
+abbrev pub WaitersNumbers : List ℕ → List ℕ → ℕ → ℕ → SetOf ℕ
+WaitersNumbers queue current r n = λ a. (i : ℕ) × (1 ≤ i) × (i < n) × (a ≡ at current (entry queue r i))
 
 -- the numbers that working t out afresh compares: its own and those of its direct waiters at the first R resources
 abbrev pub Compared : List ℕ → List ℕ → List ℕ → List ℕ → ℕ → ℕ → ℕ → SetOf ℕ

@@ -2,7 +2,7 @@
 ghost use Rattle.std.specs.Prelude.{◌≡◌, true, ◌↔◌, ℕ, ◌<◌, ◌≤◌};
 ghost use Rattle.protocol.specs.Sets.{only, ◌∪◌, Max};
 ghost use Rattle.table.specs.Table.{at};
-ghost use Rattle.chains.specs.Law.{Waiters_numbers, entries_of, Compared};
+ghost use Rattle.chains.specs.Law.{WaitersNumbers, entries_of, Compared};
 
 use table::Table;
 use table::numbers::value;
@@ -17,7 +17,7 @@ fn highest_waiter<'a>(
     start: u32,
 ) -> u32
     requires { (r < 16) × (n ≤ 32) }
-    ensures { Max ◌≤◌ (only start ∪ Waiters_numbers queue.now current.now r n) result }
+    ensures { Max ◌≤◌ (only start ∪ WaitersNumbers queue.now current.now r n) result }
 {
     let from = r * Table::THREADS;
     let mut best = start;
@@ -44,11 +44,8 @@ fn entries(size: u8) -> usize
 fn rows_to_compare(lengths: &[u8; Table::RESOURCES]) -> usize
     ensures { (result ≤ 16) × ((r : ℕ) → result ≤ r → r < 16 → at lengths.now r ≤ 1) }
 {
-    if longest(lengths) < 2 {
-        0
-    } else {
-        Table::RESOURCES
-    }
+    let nobody_waits = longest(lengths) < 2;
+    if nobody_waits { 0 } else { Table::RESOURCES }
 }
 
 // What each thread is worth by the law, in one pass over the queues.
@@ -92,7 +89,8 @@ pub fn afresh<'a>(
     let mut best = own;
     let mut r = 0;
     while r < rows {
-        if holders[r] == t {
+        let held = holders[r] == t;
+        if held {
             best = highest_waiter(queue, current, r, entries(lengths[r]), best);
         }
         r += 1;

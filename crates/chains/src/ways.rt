@@ -81,7 +81,8 @@ pub fn no_circle<'a>(waits: &'a [u8; Table::THREADS], holders: &'a [u8; Table::R
             }
             if !marked(seen, h) {
                 let way = from_thread(waits, holders, seen, seen, holder, NODES);
-                if way == 0 {
+                let endless = way == 0;
+                if endless {
                     return false;
                 }
                 seen = way;

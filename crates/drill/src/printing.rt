@@ -57,7 +57,8 @@ pub fn print<P: Print + Eprint>(rt: &P, text: Text, records: u64) -> bool {
 fn counted(n: u64, b: u8) -> u64
     ensures { result ≡ counted n b }
 {
-    if b == b'\n' {
+    let ends_line = b == b'\n';
+    if ends_line {
         return next(n);
     }
     n

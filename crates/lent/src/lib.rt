@@ -1,5 +1,5 @@
 // The step on a table that is lent, and through it on one by value. Whoever needs the step besides the kernel's call takes it from here: the
-// compiled step then has one caller, in which it is inlined, and the table is copied into it and out of it and no more often
+// compiled step then has one caller, in which it is inlined, and the table is copied no more often than that needs
 // (docs/DECISIONS.md, "What a call costs").
 #![tactic(auto)]
 

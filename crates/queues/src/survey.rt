@@ -68,7 +68,8 @@ fn row_right<'a>(
     let mut i = 1;
     while i < n {
         let x = queue[start + i];
-        if x == head {
+        let twice = x == head;
+        if twice {
             return false;
         }
         if !is_live(live, x) {
@@ -115,7 +116,8 @@ pub fn survey<'a>(
         if !row_right(queue, all, r, n, waits, standing) {
             return false;
         }
-        if 0 < n {
+        let has_holder = 0 < n;
+        if has_holder {
             holders[r] = queue[r * Table::THREADS];
         }
         r += 1;

@@ -27,7 +27,7 @@ use Rattle.table.proofs.Sound.Queues.{live_low, waits_behind, behind_waits}
 use Rattle.table.proofs.Values.Numbers.{≤_total}
 use Rattle.table.proofs.Values.Values.{Good, hops, own_rank, Lawful}
 use Rattle.table.proofs.Values.Known.{known_good, known_lawful}
-use Rattle.chains.specs.Law.{Waiters_numbers, Compared}
+use Rattle.chains.specs.Law.{WaitersNumbers, Compared}
 use Rattle.chains.proofs.law.Children.{set_afresh}
 use Rattle.events.specs.Code.Permits.{Permits}
 use Rattle.events.proofs.Kept.Queues.{release_passes}
@@ -73,7 +73,7 @@ module _ (t : Table) {waiting holders owns currents : List ℕ} (k : Known t wai
   others_lawful y (l, n) m = law_passed t k early v y l (others_not y n) (λ h. absurd (m (hd_one (queues t cs) y th h.1 (release_head v).1)))
 
   -- the numbers of those who waited, as the code compares them
-  pub waiters_numbers : (m : ℕ) → Max ◌≤◌ (Waiters_numbers t.queue currents cs (at t.length cs)) m → Max ◌≤◌ (image (at currents) (λ u. Waits t u cs)) m
+  pub waiters_numbers : (m : ℕ) → Max ◌≤◌ (WaitersNumbers t.queue currents cs (at t.length cs)) m → Max ◌≤◌ (image (at currents) (λ u. Waits t u cs)) m
   waiters_numbers m = max_map ◌≤◌ ≤_total
       (λ a w. (entry t.queue cs w.0, behind_waits t k.shape lengths_right (entry t.queue cs w.0) cs (k.sound.bare.queues_right.differ cs) (w.0, w.1, w.2, refl), w.3))
       (λ a w. let p = waits_behind t k.shape lengths_right w.0 cs w.1 in (p.0, p.1, p.2, w.2 ∙ ap (at currents) (sym p.3)))

@@ -18,7 +18,7 @@ use Rattle.table.specs.Code.Tracks.{Tracks, Sized, Known}
 use Rattle.table.proofs.Sound.Queues.{holds_first}
 use Rattle.table.proofs.Sound.Read.{queue_length}
 use Rattle.table.proofs.Values.Known.{known_good}
-use Rattle.chains.specs.Law.{Waiters_numbers, Compared}
+use Rattle.chains.specs.Law.{WaitersNumbers, Compared}
 use Rattle.events.specs.Events.{with_queue, changed}
 use Rattle.events.specs.Count.{count, release_count}
 use Rattle.events.specs.Code.Permits.{Permits}
@@ -96,7 +96,7 @@ module _ (t : Table) {waiting holders owns currents : List ℕ} (k : Known t wai
     shorter = handed_length t.queue cs p (at t.length cs) (row v) behind within
 
     pub handed_on : Sized waiting holders currents → (first : ℕ) → Max ◌≤◌ (Compared places_left lengths_left (set holders cs b) currents 16 (at owns th) th) first →
-        (m : ℕ) → Max ◌≤◌ (Waiters_numbers t.queue currents cs (at t.length cs)) m → DoneWith t («V» th cs (some b)) places_left lengths_left (set holders cs b) (set waiting b 16) (set (set currents th first) b m) 2
+        (m : ℕ) → Max ◌≤◌ (WaitersNumbers t.queue currents cs (at t.length cs)) m → DoneWith t («V» th cs (some b)) places_left lengths_left (set holders cs b) (set waiting b 16) (set (set currents th first) b m) 2
     unfolding changed with_queue count release_count
     handed_on sized first first-is m top = record {
       queue_is = refl;

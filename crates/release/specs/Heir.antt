@@ -3,7 +3,7 @@ use Rattle.std.specs.Prelude.{ℕ, ◌≤◌, ◌<◌, ◌≡◌, ◌⊎◌, Lis
 use Rattle.protocol.specs.Sets.{Max}
 use Rattle.table.specs.Table.{at}
 use Rattle.table.specs.Code.Places.{entry}
-use Rattle.chains.specs.Law.{Waiters_numbers}
+use Rattle.chains.specs.Law.{WaitersNumbers}
 use Rattle.release.specs.declared.heir.Next.{Next}
 
 -- the waiter at place p of r: of those among the first n places none has a greater number
@@ -19,4 +19,4 @@ HeirPlace queue numbers r n x = ((n < 2) × (x.place ≡ 0)) ⊎ (HighestPlace q
 -- what a V may count on, whoever follows: it stands in the queue of r and, unless its place is 0, has the greatest number of those who wait there
 pub record NextRight (queue lengths numbers : List ℕ) (r : ℕ) (x : Next) : Type 0 where
   pub within : x.place < at lengths r
-  pub greatest : 1 ≤ x.place → Max ◌≤◌ (Waiters_numbers queue numbers r (at lengths r)) x.number
+  pub greatest : 1 ≤ x.place → Max ◌≤◌ (WaitersNumbers queue numbers r (at lengths r)) x.number

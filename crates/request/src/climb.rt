@@ -29,7 +29,8 @@ pub fn climb<'a>(
         }
         current[at] = v;
         let r = wide(waits[at]);
-        if Table::RESOURCES <= r {
+        let is_ready = Table::RESOURCES <= r;
+        if is_ready {
             break n;
         }
         at = wide(holders[r]);

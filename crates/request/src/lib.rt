@@ -41,7 +41,8 @@ pub fn request<'a>(
     let n = lengths[r];
     join(queue, r, wide(n), thread);
     lengths[r] = n + 1;
-    if n == 0 {
+    let is_free = n == 0;
+    if is_free {
         holders[r] = thread;
         return 0;
     }

@@ -39,6 +39,9 @@ fn queues_right<'a>(
     right && totals_right(clock, requests, releases, &standing)
 }
 
+// The length of the shortest queue in which somebody waits.
+const WAITED: u8 = 2;
+
 // sound: the answer. The rest is known of a sound table. waits: what each thread waits for (16: nothing). holders: who holds each resource
 // (32: nobody).
 #[derive(Clone, Copy)]
@@ -91,7 +94,7 @@ pub fn check<'a>(
     // Where no queue has a second entry nobody waits, so that the ways need not be walked.
     let sound = right
         && times_differ(live, time)
-        && (longest(lengths) < 2 || no_circle(&waits, &holders))
+        && (longest(lengths) < WAITED || no_circle(&waits, &holders))
         && same(
             &law_values(queue, lengths, &holders, *own, current),
             current,

@@ -1,6 +1,6 @@
 // Reading and writing for every program here, over the standard library's readers and writers. What could not be read or written is never
-// passed over: the answer tells, and `fail` says it on standard error. A program has no exit status: after that line it comes to its end, and
-// ./run, which sees the line, ends with a status that is not 0.
+// passed over: the answer tells, and `fail` says it on standard error. The programs have no exit status of their own: after that line one comes to its
+// end, and ./run, which sees the line, ends with a status that is not 0.
 #![tactic(auto)]
 
 ghost use Rattle.std.specs.Prelude.{◌≡◌, IsNone, length};

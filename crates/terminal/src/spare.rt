@@ -60,7 +60,8 @@ fn turned_away(t: Table) -> Done
             zero: 0,
         },
     );
-    if done.answer.number == 2 {
+    let no_such_kind = done.answer.number == 2;
+    if no_such_kind {
         done.answer.number = NOT_SPARE;
     }
     done

@@ -50,9 +50,9 @@ bounds-lengths-r-2 c = omega (arith, resource c.requires.1.2)
 pub bounds-holders-r : goal.bounds-holders-r
 bounds-holders-r c = omega (arith, resource c.requires.1.2)
 
-pub returns-then-n-eq0 : goal.returns-then-n-eq0
-returns-then-n-eq0 c =
-    λ t owns k. free k c.wide-r.result c.wide-r.ensures.0 c.requires.0 c.wide.result c.join.new.queue c.wide.ensures.0 c.join.ensures c.if-n-eq0.true
+pub returns-then-is_free : goal.returns-then-is_free
+returns-then-is_free c =
+    λ t owns k. free k c.wide-r.result c.wide-r.ensures.0 c.requires.0 c.wide.result c.join.new.queue c.wide.ensures.0 c.join.ensures c.if-is_free.true
 
 pub bounds-waits-i : goal.bounds-waits-i
 bounds-waits-i c = omega (arith, thread c.requires.1.2)
@@ -62,10 +62,10 @@ bounds-current-i c = omega (arith, thread c.requires.1.2)
 
 pub climb-requires : goal.climb-requires
 climb-requires c =
-    let m = may_climb c.requires.1.2 c.wide-r.result c.wide-r.ensures.0 c.requires.0 c.if-n-eq0.false c.wide-i.result c.wide-i.ensures.0 in
+    let m = may_climb c.requires.1.2 c.wide-r.result c.wide-r.ensures.0 c.requires.0 c.if-is_free.false c.wide-i.result c.wide-i.ensures.0 in
     (c.requires.0.currents_size, (_, _, c.requires.1.1, m.0, m.1, m.2))
 
 pub returns : goal.returns
 returns c =
-    λ t owns k. climbs k c.wide-r.result c.wide-r.ensures.0 c.requires.0 c.if-n-eq0.false c.wide-i.result c.wide-i.ensures.0
+    λ t owns k. climbs k c.wide-r.result c.wide-r.ensures.0 c.requires.0 c.if-is_free.false c.wide-i.result c.wide-i.ensures.0
     c.wide.result c.climb.result c.join.new.queue c.climb.new.current c.wide.ensures.0 c.join.ensures c.climb.ensures

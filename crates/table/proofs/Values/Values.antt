@@ -60,15 +60,15 @@ module _ (t : Table) (g : Good t) where
   pub acyclic : (x : ℕ) → ¬ Depends hops x x
   acyclic x = no_circle hops (parents g.order) (g.order.forest.ends x).1
 
-  Own_behind : ℕ → SetOf Precedence
-  Own_behind x = only (own t x) ∪ image (own t) (λ u. Depends hops u x)
+  OwnBehind : ℕ → SetOf Precedence
+  OwnBehind x = only (own t x) ∪ image (own t) (λ u. Depends hops u x)
 
   -- a current precedence is somebody's own
   pub current_fits : (x : ℕ) → (current t x).1 ≤ 65535
-  unfolding Own_behind
+  unfolding OwnBehind
   current_fits x = ⊎_elim (λ e. rw e (time_fits g.bare x)) (λ w. rw w.2 (time_fits g.bare w.0)) is.among
     where
-      is : Max ◌≼◌ (Own_behind x) (current t x)
+      is : Max ◌≼◌ (OwnBehind x) (current t x)
       is = cprec_current (queues t) (own t) x (current t x) (current_defined x)
 
   -- somebody live, if x is
@@ -77,23 +77,23 @@ module _ (t : Table) (g : Good t) where
 
   -- the highest number behind x is its worth
   pub worth_is : (x m : ℕ) → Current ◌≤◌ hops own_rank x m → m ≡ worth x
-  unfolding Own_behind
+  unfolding OwnBehind
   worth_is x m k = max_unique ◌≤◌ ≤_total k (max_map ◌≤◌ ≤_total to from (ranked.0 is))
     where
-      is : Max ◌≼◌ (Own_behind x) (current t x)
+      is : Max ◌≼◌ (OwnBehind x) (current t x)
       is = cprec_current (queues t) (own t) x (current t x) (current_defined x)
 
-      fits : (p : Precedence) → p ∈ Own_behind x → p.1 ≤ 65535
+      fits : (p : Precedence) → p ∈ OwnBehind x → p.1 ≤ 65535
       fits p = ⊎_elim (λ e. rw e (time_fits g.bare x)) (λ w. rw w.2 (time_fits g.bare w.0))
 
-      ranked : Max ◌≼◌ (Own_behind x) (current t x) ↔ Max ◌≤◌ (image (rank 65535) (Own_behind x)) (worth x)
-      ranked = max_rank 65535 (Own_behind x) fits (current t x) (current_fits x)
+      ranked : Max ◌≼◌ (OwnBehind x) (current t x) ↔ Max ◌≤◌ (image (rank 65535) (OwnBehind x)) (worth x)
+      ranked = max_rank 65535 (OwnBehind x) fits (current t x) (current_fits x)
 
-      to : (a : ℕ) → a ∈ image (rank 65535) (Own_behind x) → a ∈ (only (own_rank x) ∪ image own_rank (λ u. Depends hops u x))
+      to : (a : ℕ) → a ∈ image (rank 65535) (OwnBehind x) → a ∈ (only (own_rank x) ∪ image own_rank (λ u. Depends hops u x))
       to a (p, inl e, f) = inl (f ∙ ap (rank 65535) e)
       to a (p, inr (u, d, e), f) = inr (u, d, f ∙ ap (rank 65535) e)
 
-      from : (a : ℕ) → a ∈ (only (own_rank x) ∪ image own_rank (λ u. Depends hops u x)) → a ∈ image (rank 65535) (Own_behind x)
+      from : (a : ℕ) → a ∈ (only (own_rank x) ∪ image own_rank (λ u. Depends hops u x)) → a ∈ image (rank 65535) (OwnBehind x)
       from a (inl e) = (own t x, inl refl, e)
       from a (inr (u, d, e)) = (own t u, inr (u, d, refl), e)
 

@@ -4,7 +4,7 @@ use mathlib.Core.Path.{◌≡◌}
 use mathlib.Core.Logic.{inl, inr}
 use native.Mathlib.Omega.{arith}
 use Rattle.chains.proofs.law.Maxima.{compared_all, compared_next}
-use Rattle.chains.proofs.law.afresh.Goals.{then-holders-r, else-holders-r}
+use Rattle.chains.proofs.law.afresh.Goals.{then-held, else-held}
 use Rattle.chains.proofs.law.afresh.Goals as goal
 
 pub loop-r-preserved : goal.loop-r-preserved
@@ -13,9 +13,9 @@ loop-r-preserved c =
     let a = h.args in (
       omega arith,
       compared_next a.queue.now a.lengths.now a.holders.now a.current.now a.own a.t h.loop-r.r
-          (elim c.if-holders-r.branch [
-            | then-holders-r w ↦ inl (w.if-holders-r.true, rw w.best-is (rw w.entries.ensures.0 at w.highest_waiter-best.ensures))
-            | else-holders-r w ↦ inr ((λ e. absurd (w.if-holders-r.false e)), w.best-is)
+          (elim c.if-held.branch [
+            | then-held w ↦ inl (w.if-held.true, rw w.best-is (rw w.entries.ensures.0 at w.highest_waiter-best.ensures))
+            | else-held w ↦ inr ((λ e. absurd (w.if-held.false e)), w.best-is)
           ])
           h.loop-r.invariant.1,
     )

@@ -10,14 +10,14 @@ use lib.ListN.{length, set, length-set}
 use lib.Seq.{get_or-set_same, get_or-set_other}
 use Rattle.protocol.specs.Sets.{only, ◌∪◌, Max}
 use Rattle.table.specs.Table.{at}
-use Rattle.chains.specs.Law.{entries_of, Waiters_numbers}
+use Rattle.chains.specs.Law.{entries_of, WaitersNumbers}
 use Rattle.chains.proofs.law.Maxima.{few_entries, compared_all, compared_next}
 use Rattle.chains.proofs.law.law_values.Invariants.{Right}
 use Rattle.chains.proofs.law.law_values.Goals.{then-lengths-r-gt1+then-h-lt-THREADS, then-lengths-r-gt1+else-h-lt-THREADS, else-lengths-r-gt1}
 use Rattle.chains.proofs.law.law_values.Goals as goal
 
 module _ (queue lengths holders current own : List ℕ) where
-  raised : (best : List ℕ) (r h v : ℕ) → length best ≡ 32 → h < 32 → h ≡ at holders r → Max ◌≤◌ (only (at best h) ∪ Waiters_numbers queue current r (entries_of (at lengths r))) v
+  raised : (best : List ℕ) (r h v : ℕ) → length best ≡ 32 → h < 32 → h ≡ at holders r → Max ◌≤◌ (only (at best h) ∪ WaitersNumbers queue current r (entries_of (at lengths r))) v
       → Right queue lengths holders current own r best → Right queue lengths holders current own (r + 1) (set best h v)
   raised best r h v long k e p all t l =
       compared_next queue lengths holders current (at own t) t r

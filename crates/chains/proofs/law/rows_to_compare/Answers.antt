@@ -4,5 +4,5 @@ use mathlib.Core.Logic.{inr}
 use native.Mathlib.Omega.{arith}
 use Rattle.chains.proofs.law.rows_to_compare.Goals as goal
 
-pub returns-then-longest-lt2 : goal.returns-then-longest-lt2
-returns-then-longest-lt2 c = (omega arith, λ r m l. omega (arith, c.longest.ensures.bound _ (inr (r, l, refl))))
+pub returns-then-nobody_waits : goal.returns-then-nobody_waits
+returns-then-nobody_waits c = (omega arith, λ r m l. omega (arith, c.longest-nobody_waits.ensures.bound _ (inr (r, l, refl))))

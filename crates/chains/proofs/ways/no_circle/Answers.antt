@@ -11,7 +11,7 @@ use Rattle.chains.specs.Ways.{EndsFrom, here}
 use Rattle.chains.proofs.marks.Bits.{nobody_marked, all_marked}
 use Rattle.chains.proofs.ways.Chain.{ends_found, found}
 use Rattle.chains.proofs.ways.Next.{ends_low, ends_next, next_ends}
-use Rattle.chains.proofs.ways.no_circle.Goals.{then-r-lt-RESOURCES+else-h-ge-THREADS, then-not-marked+else-way-eq0, else-not-marked, else-r-lt-RESOURCES}
+use Rattle.chains.proofs.ways.no_circle.Goals.{then-r-lt-RESOURCES+else-h-ge-THREADS, then-not-marked+else-endless, else-not-marked, else-r-lt-RESOURCES}
 use Rattle.chains.proofs.ways.no_circle.Goals as goal
 
 pub loop-i-init : goal.loop-i-init
@@ -28,12 +28,12 @@ returns-then-h-ge-THREADS c = (
   )),
 )
 
-pub returns-then-way-eq0 : goal.returns-then-way-eq0
-returns-then-way-eq0 c = (
+pub returns-then-endless : goal.returns-then-endless
+returns-then-endless c = (
   (λ e. absurd (false≢true e)),
   λ f.
       let ends = ends_next _ _ c.loop-i.i _ _ c.wide-r.ensures.0 c.if-r-lt-RESOURCES.true c.wide-h.ensures.0 (f c.loop-i.i (omega arith)) in
-      absurd (ends_found _ _ _ _ _ (rw c.wide-h.ensures.0 at ends) (sym c.from_thread-way.ensures ∙ c.if-way-eq0.true)),
+      absurd (ends_found _ _ _ _ _ (rw c.wide-h.ensures.0 at ends) (sym c.from_thread-way.ensures ∙ c.if-endless.true)),
 )
 
 pub loop-i-preserved : goal.loop-i-preserved
@@ -43,8 +43,8 @@ loop-i-preserved c =
     elim c.if-r-lt-RESOURCES.branch [
       | then-r-lt-RESOURCES+else-h-ge-THREADS w ↦
           let k : EndsFrom a.waits.now a.holders.now w.wide-h.result × ((u : ℕ) → marked w.if-not-marked.seen u ≡ true → EndsFrom a.waits.now a.holders.now u) = elim w.if-not-marked.branch [
-            | then-not-marked+else-way-eq0 v ↦
-                let f = found _ _ _ s.invariant.2 64 s.seen _ (λ q. v.if-way-eq0.false (v.from_thread-way.ensures ∙ q)) in
+            | then-not-marked+else-endless v ↦
+                let f = found _ _ _ s.invariant.2 64 s.seen _ (λ q. v.if-endless.false (v.from_thread-way.ensures ∙ q)) in
                 (rw w.wide-h.ensures.0 f.0, λ u m. ⊎_elim (s.invariant.2 u) (λ x. x) (f.1 u (rw (v.seen-is, v.from_thread-way.ensures) at m)))
             | else-not-marked v ↦ (s.invariant.2 _ (sym w.marked.ensures ∙ v.if-not-marked.false), rw v.seen-is s.invariant.2)
           ] in

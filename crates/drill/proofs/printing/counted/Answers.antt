@@ -3,10 +3,10 @@ use borrow.Author.Tests.{eq-eqb, ne_eqb}
 use Rattle.drill.specs.Parts.{counted}
 use Rattle.drill.proofs.printing.counted.Goals as goal
 
-pub returns-then-b-eq10 : goal.returns-then-b-eq10
+pub returns-then-ends_line : goal.returns-then-ends_line
 unfolding counted
-returns-then-b-eq10 c = rw (eq-eqb c.args.b 10 c.if-b-eq10.true) c.next.ensures
+returns-then-ends_line c = rw (eq-eqb c.args.b 10 c.if-ends_line.true) c.next.ensures
 
 pub returns : goal.returns
 unfolding counted
-returns c = rw (ne_eqb c.args.b 10 c.if-b-eq10.false)
+returns c = rw (ne_eqb c.args.b 10 c.if-ends_line.false)

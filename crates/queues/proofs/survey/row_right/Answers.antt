@@ -31,7 +31,7 @@ overflow_add-standing-in-loop-i c =
     let live = c.is_live-in-loop-i.ensures.0 c.if-not-is_live-2.false in
     let there = low a.live.now x.result c.requires.0 (rw x.ensures.0 live) in
     -- what the turn shows of the entry
-    let turn = row_turn (sym x.ensures.0) inv.0 (omega arith) inv.5 c.if-waits-at-ne-NOTHING.false inv.4 (rw add-zero c.if-x-head.false) live (omega (arith, there)) in
+    let turn = row_turn (sym x.ensures.0) inv.0 (omega arith) inv.5 c.if-waits-at-ne-NOTHING.false inv.4 (rw add-zero c.if-twice.false) live (omega (arith, there)) in
     omega (arith, (inv.6 a.standing.now (counted_head a.queue.now a.standing.now a.r c.wide.result c.wide.ensures.0 (omega (arith, head)))).kept x.result turn.0, c.requires.5 x.result)
 
 pub loop-i-preserved : goal.loop-i-preserved
@@ -41,7 +41,7 @@ loop-i-preserved c =
     let inv = c.loop-i.invariant in
     let live = c.is_live-in-loop-i.ensures.0 c.if-not-is_live-2.false in
     let there = low a.live.now x.result c.requires.0 (rw x.ensures.0 live) in
-    let turn = row_turn (sym x.ensures.0) inv.0 (omega arith) inv.5 c.if-waits-at-ne-NOTHING.false inv.4 (rw add-zero c.if-x-head.false) live (omega (arith, there)) in
+    let turn = row_turn (sym x.ensures.0) inv.0 (omega arith) inv.5 c.if-waits-at-ne-NOTHING.false inv.4 (rw add-zero c.if-twice.false) live (omega (arith, there)) in
     (omega arith, omega arith, simp length-set (omega arith), simp length-set (omega arith), turn.1, turn.2, λ before counted. counted_more (sym x.ensures.0) turn.0 (omega (arith, there)) (inv.6 before counted))
 
 pub returns : goal.returns

@@ -8,7 +8,7 @@ use Rattle.table.proofs.Sound.Empty.{zeros}
 use Rattle.queues.proofs.survey.Standing.{few_more}
 use Rattle.queues.proofs.survey.Turns.{rows_none, surveyed_none, rows_turn, row_of_rows}
 use Rattle.queues.proofs.survey.survey.Goals as goal
-use Rattle.queues.proofs.survey.survey.Goals.{then-n-gt0, else-n-gt0}
+use Rattle.queues.proofs.survey.survey.Goals.{then-has_holder, else-has_holder}
 
 pub loop-r-init : goal.loop-r-init
 loop-r-init c =
@@ -34,9 +34,9 @@ loop-r-preserved c =
     let short = c.longest.ensures.bound _ (inr (c.loop-r.r, c.loop-r-test.true, refl)) in
     let found = c.row_right.ensures.0 c.if-not-row_right.false in
     let spare = c.spare_zero.ensures.0 c.if-not-spare_zero.false in
-    let done = rows_turn c.wide-n.ensures.0 c.loop-r-test.true inv.6 found.0 found.1 found.2 inv.5 (omega (arith, short)) spare inv.2 {left = c.if-n-gt0.holders}
-    (elim c.if-n-gt0.branch [
-      | then-n-gt0 w ↦ inl (w.if-n-gt0.true, w.holders-is ∙ rw add-zero)
-      | else-n-gt0 w ↦ inr (w.if-n-gt0.false, w.holders-is)
+    let done = rows_turn c.wide-n.ensures.0 c.loop-r-test.true inv.6 found.0 found.1 found.2 inv.5 (omega (arith, short)) spare inv.2 {left = c.if-has_holder.holders}
+    (elim c.if-has_holder.branch [
+      | then-has_holder w ↦ inl (w.if-has_holder.true, w.holders-is ∙ rw add-zero)
+      | else-has_holder w ↦ inr (w.if-has_holder.false, w.holders-is)
     ]) in
     (omega arith, c.row_right.auto.waits ∙ inv.1, done.1, c.row_right.auto.standing ∙ inv.3, few_more found.2 inv.4, done.0, done.2)

@@ -18,8 +18,8 @@ returns-then-v-current c =
     let w = h.invariant.3 queue lengths owns k b r in
     w.1 1 h.current (stays (same a.holders.now a.waits.now a.v queue lengths owns h.current h.at h.n w.0 c.if-v-current.true))
 
-pub returns-then-r-ge-RESOURCES : goal.returns-then-r-ge-RESOURCES
-returns-then-r-ge-RESOURCES c =
+pub returns-then-is_ready : goal.returns-then-is_ready
+returns-then-is_ready c =
     let h = c.loop-current in
     let a = c.args in
     let rose : at h.current h.at < a.v = search rules in

@@ -13,7 +13,7 @@ use Rattle.queues.proofs.survey.Turns.{waits_nowhere}
 use Rattle.soundness.proofs.Rules.{surveyed_ends, surveyed_totals}
 use Rattle.soundness.proofs.Verdict.{fails, decides}
 use Rattle.soundness.proofs.check.check.Goals as goal
-use Rattle.soundness.proofs.check.check.Goals.{then-slots_right, else-slots_right, then-right, else-right, then-times_differ+then-longest-lt2, then-times_differ+else-longest-lt2, else-times_differ}
+use Rattle.soundness.proofs.check.check.Goals.{then-slots_right, else-slots_right, then-right, else-right, then-times_differ+then-longest-lt-WAITED, then-times_differ+else-longest-lt-WAITED, else-times_differ}
 
 -- a test b that comes after the test p: where p passed it is the next test r, and else p
 after_true : {p r b : Bool} {A : Type 0} → p ≡ true → Tells r A → b ≡ r → Tells b ((p ≡ true) × A)
@@ -34,8 +34,8 @@ returns-then-no_circle c =
     -- where no queue has a second entry nobody waits, so that every way ends at once
     let w : (c.if-right.value ≡ true) × ((standing : List ℕ) → Surveyed a.queue.now a.lengths.now 16 b.waits b.holders standing → (th : ℕ) → th < 32 → EndsFrom b.waits b.holders th) =
     elim c.if-times_differ.branch [
-      | then-times_differ+then-longest-lt2 w ↦ (w.if-times_differ.true, λ standing known th h. (0, here {t = th} h (omega (arith, waits_nowhere _ _ w.longest.ensures (omega (arith, w.if-longest-lt2.true)) known th h))))
-      | then-times_differ+else-longest-lt2 w ↦ (w.if-times_differ.true, λ standing known. w.no_circle.ensures.0 (sym w.value-is ∙ c.if-no_circle.true))
+      | then-times_differ+then-longest-lt-WAITED w ↦ (w.if-times_differ.true, λ standing known th h. (0, here {t = th} h (omega (arith, waits_nowhere _ _ w.longest.ensures (omega (arith, w.if-longest-lt-WAITED.true)) known th h))))
+      | then-times_differ+else-longest-lt-WAITED w ↦ (w.if-times_differ.true, λ standing known. w.no_circle.ensures.0 (sym w.value-is ∙ c.if-no_circle.true))
       | else-times_differ w ↦ absurd (false≢true (sym w.if-times_differ.false ∙ sym w.value-is ∙ c.if-no_circle.true))
     ] in
     let times : Tells c.if-right.value ((b.right ≡ true) × TimesDiffer a.live.now a.time.now) =
@@ -73,8 +73,8 @@ returns-else-no_circle c =
     let ends = (surveyed_ends _ shape p.rows l.1.1).1 p.ends in
     let e : c.if-times_differ.value ≡ true =
     elim c.if-times_differ.branch [
-      | then-times_differ+then-longest-lt2 w ↦ w.value-is ∙ lt-ltb _ _ w.if-longest-lt2.true
-      | then-times_differ+else-longest-lt2 w ↦ w.value-is ∙ w.no_circle.ensures.1 ends
+      | then-times_differ+then-longest-lt-WAITED w ↦ w.value-is ∙ lt-ltb _ _ w.if-longest-lt-WAITED.true
+      | then-times_differ+else-longest-lt-WAITED w ↦ w.value-is ∙ w.no_circle.ensures.1 ends
       | else-times_differ w ↦ absurd (false≢true (sym w.if-times_differ.false ∙ t))
     ] in
     false≢true (sym c.if-no_circle.false ∙ e))

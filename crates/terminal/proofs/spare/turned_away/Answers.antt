@@ -4,9 +4,9 @@ use Rattle.terminal.proofs.Spared.{renumbered}
 use Rattle.terminal.proofs.spare.turned_away.Goals as goal
 
 -- the step finds the table sound
-pub returns-then-done-eq2 : goal.returns-then-done-eq2
-returns-then-done-eq2 c = let d = c.step_of-done in renumbered c.args.t d.result d.ensures 17 (rw (eq-eqb d.result.answer.number 2 c.if-done-eq2.true))
+pub returns-then-no_such_kind : goal.returns-then-no_such_kind
+returns-then-no_such_kind c = let d = c.step_of-done in renumbered c.args.t d.result d.ensures 17 (rw (eq-eqb d.result.answer.number 2 c.if-no_such_kind.true))
 
 -- or not
-pub returns-else-done-eq2 : goal.returns-else-done-eq2
-returns-else-done-eq2 c = let d = c.step_of-done in renumbered c.args.t d.result d.ensures d.result.answer.number (rw (ne_eqb d.result.answer.number 2 c.if-done-eq2.false))
+pub returns-else-no_such_kind : goal.returns-else-no_such_kind
+returns-else-no_such_kind c = let d = c.step_of-done in renumbered c.args.t d.result d.ensures d.result.answer.number (rw (ne_eqb d.result.answer.number 2 c.if-no_such_kind.false))
