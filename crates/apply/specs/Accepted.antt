@@ -26,8 +26,8 @@ use Rattle.apply.specs.declared.finish.Outcome.{Outcome}
 pub record Accepted (t : Table) (e : Record) (queue lengths holders waits owns currents : List ℕ) (s : Slot) (clock : ℕ) (x : Next) : Type 0 where
   pub known : Known t waits holders owns currents
   pub unrefused : lowest (refusals t e) ≡ 0
-  pub queue_is : queue ≡ t.queue
-  pub lengths_are : lengths ≡ t.length
+  pub queue_is : queue ≡ t.rows.queue
+  pub lengths_are : lengths ≡ t.rows.length
   pub slot_is : s ≡ slot t e.thread
   pub clock_is : clock ≡ t.clock
   pub next_right : e.kind ≡ 5 → NextRight queue lengths currents e.argument x

@@ -24,8 +24,7 @@ settled t = record {
   time = t.time;
   current_priority = tabulate 32 (λ th. let p = (current t th).0 in cond (is_live t th) p 0);
   current_time = tabulate 32 (λ th. let p = (current t th).1 in cond (is_live t th) p 0);
-  queue = t.queue;
-  length = t.length;
+  rows = record { queue = t.rows.queue; length = t.rows.length };
   requests = t.requests;
   releases = t.releases;
 }
@@ -39,8 +38,7 @@ later t = record {
   time = t.time;
   current_priority = t.current_priority;
   current_time = t.current_time;
-  queue = t.queue;
-  length = t.length;
+  rows = record { queue = t.rows.queue; length = t.rows.length };
   requests = t.requests;
   releases = t.releases;
 }
@@ -54,8 +52,7 @@ with_slot t th s = record {
   time = set t.time th s.time;
   current_priority = t.current_priority;
   current_time = t.current_time;
-  queue = t.queue;
-  length = t.length;
+  rows = record { queue = t.rows.queue; length = t.rows.length };
   requests = set t.requests th s.requests;
   releases = set t.releases th s.releases;
 }
@@ -69,8 +66,7 @@ with_queue t cs q = record {
   time = t.time;
   current_priority = t.current_priority;
   current_time = t.current_time;
-  queue = take (cs * 32) t.queue ++ (q ++ (replicate (32 - length q) 0 ++ drop (cs * 32 + 32) t.queue));
-  length = set t.length cs (length q);
+  rows = record { queue = take (cs * 32) t.rows.queue ++ (q ++ (replicate (32 - length q) 0 ++ drop (cs * 32 + 32) t.rows.queue)); length = set t.rows.length cs (length q) };
   requests = t.requests;
   releases = t.releases;
 }
@@ -84,8 +80,7 @@ with_totals t requests releases = record {
   time = t.time;
   current_priority = t.current_priority;
   current_time = t.current_time;
-  queue = t.queue;
-  length = t.length;
+  rows = record { queue = t.rows.queue; length = t.rows.length };
   requests = requests;
   releases = releases;
 }

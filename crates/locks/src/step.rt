@@ -29,14 +29,14 @@ pub fn step(mut t: Table, e: Record) -> Done
         &t.time,
         &t.current_priority,
         &t.current_time,
-        &t.queue,
-        &t.length,
+        &t.rows.queue,
+        &t.rows.length,
         &t.requests,
         &t.releases,
         &own,
         &current,
     );
-    let mut lengths = t.length;
+    let mut lengths = t.rows.length;
     let mut answer = reply(1, Table::NOBODY, 0);
     if c.sound {
         answer = judge(t.clock, &t.live, &c.waits, &c.holders, &current, e);
@@ -50,10 +50,10 @@ pub fn step(mut t: Table, e: Record) -> Done
             t.requests[i],
             t.releases[i],
         );
-        let next = follower(&t.queue, &t.length, &current, e);
+        let next = follower(&t.rows.queue, &t.rows.length, &current, e);
         let clock = t.clock;
         let o = carry_out(
-            &mut t.queue,
+            &mut t.rows.queue,
             &mut lengths,
             &own,
             c.waits,
@@ -75,7 +75,7 @@ pub fn step(mut t: Table, e: Record) -> Done
         t.releases[i] = slot.releases;
         t.current_priority = priority;
         t.current_time = time;
-        t.length = lengths;
+        t.rows.length = lengths;
         answer = reply(0, o.running, o.count);
     }
     Done { table: t, answer }

@@ -37,7 +37,7 @@ alone (x ∷ (y ∷ ys)) th d h idle = absurd (idle y (behind_waiting x (y ∷ y
 
 module _ (t : Table) {waiting holders owns currents : List ℕ} (k : Known t waiting holders owns currents) (early : t.clock < 65535) where
   -- the row that is written anew
-  pub row : {th cs : ℕ} {next : Option ℕ} → Permits t («V» th cs next) → Row t.queue cs (at t.length cs)
+  pub row : {th cs : ℕ} {next : Option ℕ} → Permits t («V» th cs next) → Row t.rows.queue cs (at t.rows.length cs)
   row {th} {cs} v = record {
     size = k.shape.queue_size;
     resource = release_low t (known_good t k) v;
@@ -56,7 +56,7 @@ module _ (t : Table) {waiting holders owns currents : List ℕ} (k : Known t wai
     nothing_left = ap (λ (q : List ℕ). leave q none) only_th
 
     -- the thread's was the only entry
-    pub last_one : at t.length cs ≡ 1
+    pub last_one : at t.rows.length cs ≡ 1
     last_one = sym (queue_length t (known_good t k) cs (release_low t (known_good t k) v)) ∙ ap length only_th
 
     nobody : (x : ℕ) → ¬ Holding (left t k early v) x
@@ -70,37 +70,37 @@ module _ (t : Table) {waiting holders owns currents : List ℕ} (k : Known t wai
       currents_right = numbers_passed t k early v currents (λ y l. law_passed t k early v y l (nobody y) (λ h. (release_passes t (known_good t k) v).follows)) (dead_passed t k early v);
     }
 
-    pub vacated : Sized waiting holders currents → DoneWith t («V» th cs none) (rewritten t.queue (cs * 32) []) (set t.length cs (at t.length cs - 1)) (set holders cs 32) waiting currents 0
+    pub vacated : Sized waiting holders currents → DoneWith t («V» th cs none) (rewritten t.rows.queue (cs * 32) []) (set t.rows.length cs (at t.rows.length cs - 1)) (set holders cs 32) waiting currents 0
     unfolding changed with_queue count release_count
     vacated sized = record {
-      queue_is = ap (rewritten t.queue (cs * 32)) (sym nothing_left);
-      lengths_are = ap (set t.length cs) (omega (arith, last_one, ap length nothing_left));
+      queue_is = ap (rewritten t.rows.queue (cs * 32)) (sym nothing_left);
+      lengths_are = ap (set t.rows.length cs) (omega (arith, last_one, ap length nothing_left));
       tracks = vacated_tracks sized;
       counted = refl;
     }
 
   -- who stands at place p follows
-  module _ {th cs : ℕ} (p : ℕ) (v : Permits t («V» th cs (some (entry t.queue cs p)))) (behind : 1 ≤ p) (within : p < at t.length cs) where
+  module _ {th cs : ℕ} (p : ℕ) (v : Permits t («V» th cs (some (entry t.rows.queue cs p)))) (behind : 1 ≤ p) (within : p < at t.rows.length cs) where
     -- that is b
     abbrev b : ℕ
-    b = entry t.queue cs p
+    b = entry t.rows.queue cs p
 
     -- the places and the lengths afterwards
     abbrev places_left : List ℕ
-    places_left = rewritten t.queue (cs * 32) (leave (queues t cs) (some b))
+    places_left = rewritten t.rows.queue (cs * 32) (leave (queues t cs) (some b))
 
     abbrev lengths_left : List ℕ
-    lengths_left = set t.length cs (at t.length cs - 1)
+    lengths_left = set t.rows.length cs (at t.rows.length cs - 1)
 
-    shorter : length (leave (queues t cs) (some b)) ≡ at t.length cs - 1
-    shorter = handed_length t.queue cs p (at t.length cs) (row v) behind within
+    shorter : length (leave (queues t cs) (some b)) ≡ at t.rows.length cs - 1
+    shorter = handed_length t.rows.queue cs p (at t.rows.length cs) (row v) behind within
 
     pub handed_on : Sized waiting holders currents → (first : ℕ) → Max ◌≤◌ (Compared places_left lengths_left (set holders cs b) currents 16 (at owns th) th) first →
-        (m : ℕ) → Max ◌≤◌ (WaitersNumbers t.queue currents cs (at t.length cs)) m → DoneWith t («V» th cs (some b)) places_left lengths_left (set holders cs b) (set waiting b 16) (set (set currents th first) b m) 2
+        (m : ℕ) → Max ◌≤◌ (WaitersNumbers t.rows.queue currents cs (at t.rows.length cs)) m → DoneWith t («V» th cs (some b)) places_left lengths_left (set holders cs b) (set waiting b 16) (set (set currents th first) b m) 2
     unfolding changed with_queue count release_count
     handed_on sized first first-is m top = record {
       queue_is = refl;
-      lengths_are = ap (set t.length cs) (sym shorter);
+      lengths_are = ap (set t.rows.length cs) (sym shorter);
       tracks = followed t k early v sized first (rw (← shorter) at first-is) m (waiters_numbers t k early v m top);
       counted = refl;
     }

@@ -63,8 +63,8 @@ pub fn follower<'a>(
     current: &'a [u32; Table::THREADS],
     e: Record,
 ) -> Next
-    requires { (t : Table) × (waits holders owns : List ℕ) × Known t waits holders owns current.now × (lowest (refusals t e) ≡ 0) × (lengths.now ≡ t.length) }
-    ensures { (t : Table) (waits holders owns : List ℕ) → Known t waits holders owns current.now → lowest (refusals t e) ≡ 0 → queue.now ≡ t.queue → lengths.now ≡ t.length → e.kind ≡ 5 →
+    requires { (t : Table) × (waits holders owns : List ℕ) × Known t waits holders owns current.now × (lowest (refusals t e) ≡ 0) × (lengths.now ≡ t.rows.length) }
+    ensures { (t : Table) (waits holders owns : List ℕ) → Known t waits holders owns current.now → lowest (refusals t e) ≡ 0 → queue.now ≡ t.rows.queue → lengths.now ≡ t.rows.length → e.kind ≡ 5 →
         NextRight queue.now lengths.now current.now e.argument result × (next_at queue.now e.argument result.place ≡ heir t (queues t e.argument)) }
 {
     if e.kind != Record::V {

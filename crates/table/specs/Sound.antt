@@ -15,7 +15,7 @@ pub record TimesRight (t : Table) : Type 0 where
 
 -- queue lengths are at most 32, entries are live and differ within a queue
 pub record QueuesRight (t : Table) : Type 0 where
-  pub lengths : (cs : Resource) → at t.length cs ≤ 32
+  pub lengths : (cs : Resource) → at t.rows.length cs ≤ 32
   pub live_entries : (cs : Resource) (th : Thread) → th ∈ set (queues t cs) → th ∈ live t
   pub differ : (cs : Resource) → Distinct (queues t cs)
 
@@ -35,7 +35,7 @@ pub record Bare (t : Table) : Type 0 where
   -- dead slots are zero
   pub dead_slots : (th : Thread) → ¬ (th ∈ live t) → slot t th ≡ dead_slot
   -- queue places beyond a length are zero
-  pub spare_places : (cs : Resource) (i : ℕ) → cs < 16 → at t.length cs ≤ i → i < 32 → at t.queue (cs * 32 + i) ≡ 0
+  pub spare_places : (cs : Resource) (i : ℕ) → cs < 16 → at t.rows.length cs ≤ i → i < 32 → at t.rows.queue (cs * 32 + i) ≡ 0
   -- live threads have set times below the clock, all different
   pub times : TimesRight t
   -- queue lengths are at most 32, entries are live and differ within a queue

@@ -4,12 +4,21 @@
 pub mod numbers;
 pub mod queues;
 pub mod running;
+pub mod workings;
 
 ghost use Rattle.std.specs.Prelude.{◌≡◌, ◌<◌};
 ghost use Rattle.table.specs.Slots.{fresh_slot, set_slot, requested_slot, released_slot};
 ghost use Rattle.table.specs.Table.{empty, dead_slot};
 
-// One array a property: an array of numbers is lent without a copy, and loops over it vectorise. `live` is 0 or 1, and any
+// The queues: a row of 32 places for each resource, one row behind the other, and how many of them stand in use.
+#[repr(C)]
+#[derive(Clone, Copy)]
+pub struct Rows {
+    pub queue: [u8; Table::PLACES],
+    pub length: [u8; Table::RESOURCES],
+}
+
+// One array a property, not one struct a thread: the layout for C, and loops over an array of numbers vectorise. `live` is 0 or 1, and any
 // other number makes the table unsound; that the clock is at most 65,535 and a priority at most 255 holds by the types. Later fields stand
 // last, so that those before them stay where they were.
 #[repr(C)]
@@ -21,8 +30,7 @@ pub struct Table {
     pub time: [u16; Table::THREADS],
     pub current_priority: [u8; Table::THREADS],
     pub current_time: [u16; Table::THREADS],
-    pub queue: [u8; Table::PLACES],
-    pub length: [u8; Table::RESOURCES],
+    pub rows: Rows,
     pub requests: [u16; Table::THREADS],
     pub releases: [u16; Table::THREADS],
 }
@@ -53,8 +61,10 @@ impl Table {
             time: [0; Table::THREADS],
             current_priority: [0; Table::THREADS],
             current_time: [0; Table::THREADS],
-            queue: [0; 512],
-            length: [0; Table::RESOURCES],
+            rows: Rows {
+                queue: [0; 512],
+                length: [0; Table::RESOURCES],
+            },
             requests: [0; Table::THREADS],
             releases: [0; Table::THREADS],
         }

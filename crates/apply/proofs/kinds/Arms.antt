@@ -33,15 +33,15 @@ same_again xs i = ext_get_or 0 (put xs i (at xs i)) xs (length-set xs i (at xs i
 
 -- a table with one slot or one queue written, by its arrays
 module _ (t : Table) (th : ℕ) where
-  slot_made : (n : Slot) → later (with_slot t th n) ≡ made_table t th n (with_slot t th n).queue (with_slot t th n).length
+  slot_made : (n : Slot) → later (with_slot t th n) ≡ made_table t th n (with_slot t th n).rows.queue (with_slot t th n).rows.length
   unfolding with_slot
   slot_made n = refl
 
-  request_made : (cs : ℕ) (q : List ℕ) → later (with_queue (one_request_more t th) cs q) ≡ made_table t th (requested_slot (slot t th)) (with_queue (one_request_more t th) cs q).queue (with_queue (one_request_more t th) cs q).length
+  request_made : (cs : ℕ) (q : List ℕ) → later (with_queue (one_request_more t th) cs q) ≡ made_table t th (requested_slot (slot t th)) (with_queue (one_request_more t th) cs q).rows.queue (with_queue (one_request_more t th) cs q).rows.length
   unfolding with_queue
   request_made cs q = rw (same_again t.live th, same_again t.priority th, same_again t.time th, same_again t.releases th)
 
-  release_made : (cs : ℕ) (q : List ℕ) → later (with_queue (one_release_more t th) cs q) ≡ made_table t th (released_slot (slot t th)) (with_queue (one_release_more t th) cs q).queue (with_queue (one_release_more t th) cs q).length
+  release_made : (cs : ℕ) (q : List ℕ) → later (with_queue (one_release_more t th) cs q) ≡ made_table t th (released_slot (slot t th)) (with_queue (one_release_more t th) cs q).rows.queue (with_queue (one_release_more t th) cs q).rows.length
   unfolding with_queue
   release_made cs q = rw (same_again t.live th, same_again t.priority th, same_again t.time th, same_again t.requests th)
 
@@ -60,7 +60,7 @@ module _ (t : Table) (e : Record) {queue lengths holders waits owns currents : L
   module _ {queue' lengths' holders' waits' currents' : List ℕ} {c : Change} where
     -- what it leaves is the record's, once the slot is the one that it writes
     applied : {ev : Event} → named e next ≡ some ev → Permits t ev → {n : ℕ} {m : Slot} → DoneWith t ev queue' lengths' holders' waits' currents' n → c ≡ record { slot = m; count = n } →
-        changed t ev ≡ made_table t e.thread m (changed t ev).queue (changed t ev).length → Applied t e next queue' lengths' holders' waits' currents' c
+        changed t ev ≡ made_table t e.thread m (changed t ev).rows.queue (changed t ev).rows.length → Applied t e next queue' lengths' holders' waits' currents' c
     applied {ev} is permits {n} {m} d q made = record {
       event = ev;
       named_is = is;

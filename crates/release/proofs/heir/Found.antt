@@ -21,15 +21,15 @@ module _ (t : Table) (e : Record) {waits holders owns currents : List ℕ} (k : 
   pub named_low : e.argument < 16
   named_low = resource_low t e k.shape z (inr kind)
 
-  pub named_short : at t.length e.argument ≤ 32
+  pub named_short : at t.rows.length e.argument ≤ 32
   named_short = k.sound.bare.queues_right.lengths e.argument
 
   -- the thread itself stands in the queue
-  some : 1 ≤ at t.length e.argument
+  some : 1 ≤ at t.rows.length e.argument
   some = ((holds_first t k.shape k.sound.bare.queues_right.lengths e.thread e.argument).0 (release_holds t e k.shape z kind)).0
 
-  pub found : {queue lengths : List ℕ} {r n : ℕ} {x : Next} → queue ≡ t.queue → lengths ≡ t.length → r ≡ e.argument → n ≡ at lengths r → HeirPlace queue currents r n x →
+  pub found : {queue lengths : List ℕ} {r n : ℕ} {x : Next} → queue ≡ t.rows.queue → lengths ≡ t.rows.length → r ≡ e.argument → n ≡ at lengths r → HeirPlace queue currents r n x →
       NextRight queue lengths currents e.argument x × (next_at queue e.argument x.place ≡ heir t (queues t e.argument))
   found {x = x} q l index size place =
-      let here : HeirPlace t.queue currents e.argument (at t.length e.argument) x = rw (size, index, q, l) at place in
-      rw (q, l) (heir_right t.queue t.length currents e.argument x some here, place_heir t (known_good t k) k.tracks e.argument named_low x here)
+      let here : HeirPlace t.rows.queue currents e.argument (at t.rows.length e.argument) x = rw (size, index, q, l) at place in
+      rw (q, l) (heir_right t.rows.queue t.rows.length currents e.argument x some here, place_heir t (known_good t k) k.tracks e.argument named_low x here)

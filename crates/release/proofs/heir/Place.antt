@@ -40,25 +40,25 @@ no_heir t (a ∷ []) h = refl
 no_heir t (a ∷ (x ∷ xs)) h = absurd (omega arith)
 
 module _ (t : Table) (g : Good t) {waiting holders currents : List ℕ} (k : Tracks t waiting holders currents) (r : ℕ) (low : r < 16) where
-  module _ (p : ℕ) (h : HighestPlace t.queue currents r (at t.length r) p) where
+  module _ (p : ℕ) (h : HighestPlace t.rows.queue currents r (at t.rows.length r) p) where
     -- at that place stands a waiter
-    e_waits : Waits t (entry t.queue r p) r
-    e_waits = behind_waits t g.shape g.bare.queues_right.lengths (entry t.queue r p) r (g.bare.queues_right.differ r) (p, h.behind, h.within, refl)
+    e_waits : Waits t (entry t.rows.queue r p) r
+    e_waits = behind_waits t g.shape g.bare.queues_right.lengths (entry t.rows.queue r p) r (g.bare.queues_right.differ r) (p, h.behind, h.within, refl)
 
     -- of highest current precedence
-    e_topmost : entry t.queue r p ∈ Highest ◌≼◌ (Cprec t) (λ u. Waits t u r)
-    e_topmost = highest_number t g k (λ u. Waits t u r) (λ u w. g.bare.queues_right.live_entries r u w.0) (entry t.queue r p) e_waits
+    e_topmost : entry t.rows.queue r p ∈ Highest ◌≼◌ (Cprec t) (λ u. Waits t u r)
+    e_topmost = highest_number t g k (λ u. Waits t u r) (λ u w. g.bare.queues_right.live_entries r u w.0) (entry t.rows.queue r p) e_waits
         (λ u w. let b = waits_behind t g.shape g.bare.queues_right.lengths u r w in rw (← b.3) (h.highest b.0 b.1 b.2))
 
     -- which is the heir
-    highest_heir : heir t (queues t r) ≡ some (entry t.queue r p)
+    highest_heir : heir t (queues t r) ≡ some (entry t.rows.queue r p)
     highest_heir = go (heir t (queues t r)) refl (heir_follows t (queues t r) (g.bare.queues_right.differ r))
       where
-        go : (next : Option ℕ) → heir t (queues t r) ≡ next → Follows (queues t r) next → heir t (queues t r) ≡ some (entry t.queue r p)
-        go none e f = absurd (f (entry t.queue r p) e_waits)
-        go (some b) e f = e ∙ ap some (one_heir t g r b (entry t.queue r p) (heir_topmost t g r b e) e_topmost)
+        go : (next : Option ℕ) → heir t (queues t r) ≡ next → Follows (queues t r) next → heir t (queues t r) ≡ some (entry t.rows.queue r p)
+        go none e f = absurd (f (entry t.rows.queue r p) e_waits)
+        go (some b) e f = e ∙ ap some (one_heir t g r b (entry t.rows.queue r p) (heir_topmost t g r b e) e_topmost)
 
   -- whoever stands at the place that the code finds is the heir; place 0 where there is none
-  pub place_heir : (x : Next) → HeirPlace t.queue currents r (at t.length r) x → next_at t.queue r x.place ≡ heir t (queues t r)
+  pub place_heir : (x : Next) → HeirPlace t.rows.queue currents r (at t.rows.length r) x → next_at t.rows.queue r x.place ≡ heir t (queues t r)
   place_heir x (inl (few, z)) = rw (z, no_heir t (queues t r) (omega (arith, queue_length t g r low)))
   place_heir x (inr (h, e)) = rw (ne_eqb x.place 0 (omega (arith, h.behind))) (sym (highest_heir x.place h))

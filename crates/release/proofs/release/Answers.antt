@@ -48,7 +48,7 @@ module _ {queue lengths holders waiting owns currents : List ℕ} (t : Table) (t
     abbrev heir : ℕ
     heir = entry queue r x.place
 
-    some_next : Permits t («V» th cs (some (entry t.queue cs x.place)))
+    some_next : Permits t («V» th cs (some (entry t.rows.queue cs x.place)))
     some_next = rw (ne_eqb x.place 0 not-zero, b.queue_is) at b.permitted
 
     its_low : (th < 32) × (heir < 32)

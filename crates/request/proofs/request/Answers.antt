@@ -26,7 +26,7 @@ module _ {t : Table} {th cs : ℕ} {queue lengths holders waits owns currents : 
     free n places many joined z = rw (joined, many, wide) (free_done k size (rw wide at z))
 
     module _ (taken : at lengths r ≢ 0) (i : ℕ) (index : i ≡ th) where
-      may_climb : (m : ℕ) × (m ≤ 17) × Rising (changed t (P th cs)).queue (changed t (P th cs)).length holders (set waits i cs) owns (at currents i) currents (at holders r) m
+      may_climb : (m : ℕ) × (m ≤ 17) × Rising (changed t (P th cs)).rows.queue (changed t (P th cs)).rows.length holders (set waits i cs) owns (at currents i) currents (at holders r) m
       may_climb = rw (wide, index) (start_rises k size (rw wide at taken))
 
       climbs : (n m : ℕ) (places e : List ℕ) → n ≡ at lengths r → places ≡ set queue (r * 32 + n) th →
@@ -34,7 +34,7 @@ module _ {t : Table} {th cs : ℕ} {queue lengths holders waits owns currents : 
           Climbed places lengths holders (set waits i cs) owns currents (at holders r) m e) →
           DoneWith t (P th cs) places (set lengths r (at lengths r + 1)) holders (set waits i cs) e m
       climbs n m places e many joined climb =
-          let c = climb (changed t (P th cs)).queue (changed t (P th cs)).length owns may_climb.0 may_climb.1 may_climb.2 in
+          let c = climb (changed t (P th cs)).rows.queue (changed t (P th cs)).rows.length owns may_climb.0 may_climb.1 may_climb.2 in
           rw (joined, many, wide, index) (taken_done k size (rw wide at taken) (rw (wide, index) at c))
 
 -- the thread and the resource are below their limits, and the resource's queue has room

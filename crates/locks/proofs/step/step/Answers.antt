@@ -56,12 +56,12 @@ known c = (checked (goal.at.Then-answer-eq0 c).After-reply-answer).known (unrefu
 
 -- at a V the heir follows
 follows : (c : After-follower-next) → let t = c.args.t in let x = c.follower-next.result in
-    c.args.e.kind ≡ 5 → NextRight t.queue t.length c.numbers-current.result c.args.e.argument x × (next_at t.queue c.args.e.argument x.place ≡ heir t (queues t c.args.e.argument))
+    c.args.e.kind ≡ 5 → NextRight t.rows.queue t.rows.length c.numbers-current.result c.args.e.argument x × (next_at t.rows.queue c.args.e.argument x.place ≡ heir t (queues t c.args.e.argument))
 follows c = let d = (goal.at.After-follower-next c).Then-answer-eq0 in c.follower-next.ensures c.args.t _ _ _ (known d) (unrefused d).1 refl refl
 
 -- the event is carried out from the table's arrays
 ready : (c : After-follower-next) → let t = c.args.t in let r = c.check-c.result in
-    Accepted t c.args.e t.queue t.length r.holders r.waits c.numbers-of_own.result c.numbers-current.result c.of-before.result t.clock c.follower-next.result
+    Accepted t c.args.e t.rows.queue t.rows.length r.holders r.waits c.numbers-of_own.result c.numbers-current.result c.of-before.result t.clock c.follower-next.result
 ready c =
     let d = (goal.at.After-follower-next c).Then-answer-eq0 in
     let t = c.args.t in record {
