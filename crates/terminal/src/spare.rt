@@ -7,7 +7,8 @@ ghost use Rattle.terminal.specs.Spare.{spare_answer};
 
 use crate::creation;
 use lent::step_of;
-use locks::{Done, Record};
+use locks::Done;
+use refusals::{Reason, Record};
 use table::Table;
 
 // The ids of spare tasks.
@@ -35,12 +36,12 @@ fn is_spare(id: u8) -> bool
     (FIRST..=LAST).contains(&id)
 }
 
-// An id that is no spare task's, whichever it is. The step's 2 is 17 here.
+// An id that is no spare task's, whichever it is. The step's reason for it is 17 here.
 fn turned_away(t: Table) -> Done
     ensures { result ≡ refused t (cond (is_sound t) 17 1) }
 {
     let mut done = step_of(t, NO_KIND);
-    let no_such_kind = done.answer.number == 2;
+    let no_such_kind = done.answer.number == u8::from(Reason::NoSuchKind);
     if no_such_kind {
         done.answer.number = NOT_SPARE;
     }
