@@ -10,12 +10,6 @@ use Rattle.refusals.specs.declared.Record.{Record}
 use Rattle.refusals.specs.Refusals.{lowest, unsound, by_record, by_thread, by_queues, refusals}
 use Rattle.refusals.proofs.Given.Lowest.{Numbered, passes, of_first, of_second}
 
--- past 7 the thread is live, so that 8 need not ask again
-pub past_7 : (create live runs : Bool) → (not create && not live) ≡ false → (not create && (live && not runs)) ≡ (not create && not runs)
-past_7 true live runs f = refl
-past_7 false true runs f = refl
-past_7 false false runs f = absurd (false≢true (sym f))
-
 -- the parts follow each other: 2 to 4, then 5 to 8
 pub record_numbered : (e : Record) → Numbered 1 (by_record e)
 unfolding by_record
