@@ -5,7 +5,6 @@ pub mod kinds;
 pub mod reasons;
 pub mod refusal;
 
-pub use kinds::Kind;
 ghost use Rattle.std.specs.Prelude.{◌≡◌};
 ghost use Rattle.refusals.specs.Numbers.{kind_number};
 

@@ -1,5 +1,5 @@
 // Why a record is refused on a sound table: a test for each reason, in the order of their numbers. That the table is sound was tested before.
-ghost use Rattle.std.specs.Prelude.{◌≡◌, ◌⊎◌, List, ℕ, ◌<◌, IfOk};
+ghost use Rattle.std.specs.Prelude.{◌≡◌, ◌⊎◌, List, ℕ, ◌<◌, IfOk, false};
 ghost use Rattle.table.specs.Compute.{runner};
 ghost use Rattle.table.specs.Code.Tracks.{Known};
 ghost use Rattle.chains.specs.Marks.{marked};
@@ -9,14 +9,15 @@ ghost use Rattle.refusals.specs.Refusals.{lowest, malformed, by_record, by_threa
 
 use crate::{Kind, Reason, Record};
 use chains::marks::marked;
-use chains::old_ways::{NODES, from_resource};
+use chains::ways::{NODES, from_resource};
 use table::Table;
 use table::workings::Graph;
 
 // P or V with a resource above 15; Exit with an argument other than 0; fourth byte not 0.
 #[tactic(auto, unfolding(crate::specs::Refusals::malformed))]
 fn malformed(kind: Kind, e: Record) -> bool
-    ensures { kind_number kind ≡ e.kind → result ≡ malformed e }
+    ensures form { kind_number kind ≡ e.kind → result ≡ malformed e }
+    ensures resource { result ≡ false → (kind ≡ Kind.P) ⊎ (kind ≡ Kind.V) → e.argument < 16 }
 {
     let wrong = match kind {
         Kind::P | Kind::V => Table::RESOURCES <= usize::from(e.argument),
@@ -31,6 +32,8 @@ fn malformed(kind: Kind, e: Record) -> bool
 fn by_record(e: Record) -> Result<Kind, Reason>
     ensures number { refusal_number result ≡ lowest (by_record e) }
     ensures kind { IfOk result (λ kind. kind_number kind ≡ e.kind) }
+    ensures thread { IfOk result (λ _. e.thread < 32) }
+    ensures resource { IfOk result (λ kind. (kind ≡ Kind.P) ⊎ (kind ≡ Kind.V) → e.argument < 16) }
 {
     let kind = Kind::try_from(e.kind)?;
     if Table::THREADS <= usize::from(e.thread) {
@@ -46,7 +49,8 @@ fn by_record(e: Record) -> Result<Kind, Reason>
 #[tactic(auto, unfolding(crate::specs::Refusals::lowest, crate::specs::Refusals::by_thread, table::specs::Compute::is_live))]
 fn by_thread(t: &Table, running: u8, kind: Kind, e: Record) -> Result<(), Reason>
     requires { e.thread < 32 }
-    ensures { kind_number kind ≡ e.kind → running ≡ runner t.now → refusal_number result ≡ lowest (by_thread t.now e) }
+    ensures number { kind_number kind ≡ e.kind → running ≡ runner t.now → refusal_number result ≡ lowest (by_thread t.now e) }
+    ensures clock { IfOk result (λ _. t.now.clock < 65535) }
 {
     let is_live = t.live[usize::from(e.thread)] == 1;
     if t.clock == Table::EVENTS {
@@ -69,7 +73,7 @@ fn leads(graph: &Graph, r: u8, th: u8) -> bool
     if graph.holders[usize::from(r)] == Table::NOBODY {
         return false;
     }
-    let way = from_resource(&graph.waits, &graph.holders, 0, 0, r, NODES);
+    let way = from_resource(graph, 0, 0, r, NODES);
     marked(way, usize::from(th))
 }
 
@@ -92,6 +96,8 @@ fn by_queues(graph: &Graph, kind: Kind, e: Record) -> Result<(), Reason>
 pub fn refusal(t: &Table, graph: &Graph, running: u8, e: Record) -> Result<Kind, Reason>
     ensures number { (owns currents : List ℕ) → Known t.now graph.now.waits graph.now.holders owns currents → running ≡ runner t.now → refusal_number result ≡ lowest (refusals t.now e) }
     ensures kind { IfOk result (λ kind. kind_number kind ≡ e.kind) }
+    ensures thread { IfOk result (λ _. e.thread < 32) }
+    ensures clock { IfOk result (λ _. t.now.clock < 65535) }
 {
     let kind = by_record(e)?;
     by_thread(t, running, kind, e)?;

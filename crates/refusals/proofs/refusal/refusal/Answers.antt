@@ -1,9 +1,9 @@
 -- `refusals::refusal::refusal` meets its contract: the parts follow each other as `proofs/Given/Parts.antt` says. Assumes nothing.
-use Prim.Native.Nat.{ℕ, ◌<◌}
+use Prim.Native.Nat.{ℕ}
 use mathlib.Core.Path.{◌≡◌, sym, ap, ◌∙◌}
 use mathlib.Core.Bool.{true}
 use mathlib.Core.List.{List}
-use mathlib.Core.Logic.{◌≢◌, ◌⊎◌, ⊎_elim, inl, inr}
+use mathlib.Core.Logic.{◌≢◌, ⊎_elim, inl, inr}
 use native.Mathlib.Omega.{arith}
 use Rattle.std.proofs.lemmas.Result.{err_from_is_err_and}
 use Rattle.table.specs.declared.Table.{Table}
@@ -11,23 +11,13 @@ use Rattle.table.specs.Compute.{is_sound}
 use Rattle.table.specs.Code.Tracks.{Known}
 use Rattle.table.proofs.Tests.Decided.{tells_sound}
 use Rattle.refusals.specs.declared.Record.{Record}
-use Rattle.refusals.specs.declared.kinds.Kind.{Kind}
-use Rattle.refusals.specs.declared.kinds.Kind.TheVariants.{P, «V»}
 use Rattle.refusals.specs.declared.reasons.Reason.{Reason}
 use Rattle.refusals.specs.Numbers.{kind_number, reason_number}
 use Rattle.refusals.specs.Refusals.{lowest, refusals, by_record, by_thread, by_queues}
 use Rattle.refusals.specs.Applies.{IllFormed}
-use Rattle.refusals.proofs.Given.Parts.{given_record, given_thread, given_queues}
+use Rattle.refusals.proofs.Given.Parts.{above_0, given_record, given_thread, given_queues}
 use Rattle.refusals.proofs.Given.Formed.{well_formed, formed_thread, formed_resource}
 use Rattle.refusals.proofs.refusal.refusal.Goals as goal
-
--- no reason has the number 0
-above_0 : (reason : Reason) → reason_number reason ≢ 0
-above_0 reason = grind arith
-
--- past the first test the record is well formed
-formed : (e : Record) → 0 ≡ lowest (by_record e) → (n : ℕ) → ¬ IllFormed e n
-formed e none = (well_formed _).0 (sym none)
 
 is_right : {t : Table} {waits holders owns currents : List ℕ} → Known t waits holders owns currents → is_sound t ≡ true
 is_right {t} known = (tells_sound t known.shape).1 known.sound
@@ -48,27 +38,19 @@ returns-in_err-kind-clause-number c owns currents known running =
     let p = err_from_is_err_and c.from_residual.result c.from_residual.ensures.1 in
     rw (p.1, p.2) (of_record known _ _ c.in_err-kind.ensures.number)
 
-pub by_thread-requires : goal.by_thread-requires
-by_thread-requires c = formed_thread (formed _ c.in_ok-kind.ensures.number)
-
-pub by_queues-requires : goal.by_queues-requires
-by_queues-requires c kind =
-    let is = sym c.in_ok-kind.ensures.kind in
-    formed_resource (formed _ c.in_ok-kind.ensures.number) (⊎_elim (λ k. inl (is ∙ ap kind_number k)) (λ k. inr (is ∙ ap kind_number k)) kind)
-
 pub returns-in_err-by_thread-clause-number : goal.returns-in_err-by_thread-clause-number
 returns-in_err-by_thread-clause-number c owns currents known running =
     let p = err_from_is_err_and c.from_residual-in_err-by_thread.result c.from_residual-in_err-by_thread.ensures.1 in
     let before = c.in_ok-kind.ensures in
-    rw (p.1, p.2) (of_thread known _ _ before.number (c.in_err-by_thread.ensures before.kind running))
+    rw (p.1, p.2) (of_thread known _ _ before.number (c.in_err-by_thread.ensures.number before.kind running))
 
 pub returns-in_err-by_queues-clause-number : goal.returns-in_err-by_queues-clause-number
 returns-in_err-by_queues-clause-number c owns currents known running =
     let p = err_from_is_err_and c.from_residual-in_err-by_queues.result c.from_residual-in_err-by_queues.ensures.1 in
     let before = c.in_ok-kind.ensures in
-    rw (p.1, p.2) (of_queues known _ before.number (c.in_ok-by_thread.ensures before.kind running) (c.in_err-by_queues.ensures _ _ _ known before.kind (formed_thread (formed _ before.number))))
+    rw (p.1, p.2) (of_queues known _ before.number (c.in_ok-by_thread.ensures.number before.kind running) (c.in_err-by_queues.ensures _ _ _ known before.kind before.thread))
 
 pub returns-clause-number : goal.returns-clause-number
 returns-clause-number c owns currents known running =
     let before = c.in_ok-kind.ensures in
-    of_queues known _ before.number (c.in_ok-by_thread.ensures before.kind running) (c.in_ok-by_queues.ensures _ _ _ known before.kind (formed_thread (formed _ before.number)))
+    of_queues known _ before.number (c.in_ok-by_thread.ensures.number before.kind running) (c.in_ok-by_queues.ensures _ _ _ known before.kind before.thread)
