@@ -7,7 +7,6 @@ use crate::Answer;
 use refusals::refusal::refusal;
 use refusals::{Kind, Record};
 use table::Table;
-use table::running::running;
 use table::workings::Workings;
 
 // On a sound table: the answer that refuses the record, or its kind, which is to be carried out.
@@ -16,6 +15,6 @@ pub fn judge(t: &Table, w: &Workings, e: Record) -> Result<Kind, Answer>
     ensures thread { IfOk result (λ _. e.thread < 32) }
     ensures clock { IfOk result (λ _. t.now.clock < 65535) }
 {
-    let runs = running(&w.graph.waits, &w.current);
+    let runs = w.running();
     refusal(t, &w.graph, runs, e).map_err(|reason| Answer::refused(reason, runs))
 }
