@@ -4,7 +4,7 @@ ghost use Rattle.protocol.specs.Events.{Create, Exit, Set};
 ghost use Rattle.table.specs.declared.Table.{Table};
 ghost use Rattle.events.specs.Code.Work.{Begun, DoneWith};
 
-use chains::law::afresh;
+use chains::old_law::afresh;
 use table::Table;
 use table::numbers::number;
 use table::queues::wide;

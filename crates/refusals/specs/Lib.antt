@@ -2,3 +2,5 @@
 pub mod Applies
 -- The same as one list of tests that compute.
 pub mod Refusals
+-- The numbers of the kinds and of the reasons.
+pub mod Numbers

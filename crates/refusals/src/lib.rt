@@ -1,7 +1,12 @@
 // Event records, and why one is refused. See specs/ for the numbers and their order.
 #![tactic(auto)]
 
+pub mod kinds;
+pub mod reasons;
 pub mod refusal;
+
+pub use kinds::Kind;
+pub use reasons::Reason;
 
 // An event record: four bytes.
 #[repr(C)]

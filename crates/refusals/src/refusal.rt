@@ -10,7 +10,7 @@ ghost use Rattle.refusals.specs.Refusals.{lowest, malformed, by_record, by_threa
 
 use crate::Record;
 use chains::marks::marked;
-use chains::ways::{NODES, from_resource};
+use chains::old_ways::{NODES, from_resource};
 use table::Table;
 use table::queues::wide;
 

@@ -16,7 +16,7 @@ ghost use Rattle.events.specs.Code.Work.{Begun, DoneWith};
 ghost use Rattle.release.specs.Heir.{NextRight};
 
 use crate::heir::Next;
-use chains::law::afresh;
+use chains::old_law::afresh;
 use table::Table;
 use table::queues::wide;
 

@@ -10,17 +10,15 @@ use Rattle.chains.proofs.law.highest_waiter.Goals as goal
 
 pub loop-i-preserved : goal.loop-i-preserved
 loop-i-preserved c =
-    let h = c in
-    let a = h.args in
+    let a = c.args in
     let e = c.value-v.ensures in (
       omega arith,
-      omega arith,
-      waiter_next a.queue.now a.current.now a.r a.start h.loop-i.i h.loop-i.invariant.0
+      waiter_next a.rows.now.queue a.w.now.current a.r a.start c.loop-i.i (omega arith)
           (of_two _ _ _ (elim c.if-best-v.branch [
             | then-best-v w ↦ inl (rw e at w.if-best-v.true, w.best-is ∙ e)
             | else-best-v w ↦ inr (rw e at w.if-best-v.false, w.best-is)
           ]))
-          h.loop-i.invariant.2,
+          c.loop-i.invariant.1,
     )
 
 pub returns : goal.returns
@@ -28,4 +26,4 @@ returns c =
     alike
     (λ a. ⊎_elim inl (λ w. inr (w.0, w.1, omega (arith, w.1, w.2), w.3)))
     (λ a. ⊎_elim inl (λ w. inr (w.0, w.1, omega (arith, w.1, w.2), w.3)))
-    c.loop-i.invariant.2
+    c.loop-i.invariant.1

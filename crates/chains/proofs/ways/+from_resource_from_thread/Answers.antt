@@ -10,28 +10,34 @@ pub from_resource-returns-then-steps-eq0 : goal.from_resource-returns-then-steps
 from_resource-returns-then-steps-eq0 t c = sym (resource_none _ _ _ _ _ _ c.if-steps-eq0.true)
 
 pub from_resource-returns-then-i-ge-RESOURCES : goal.from_resource-returns-then-i-ge-RESOURCES
-from_resource-returns-then-i-ge-RESOURCES t c = sym (resource_past _ _ _ _ _ (c.args.steps - 1) (omega arith) _ c.if-i-ge-RESOURCES.true)
+from_resource-returns-then-i-ge-RESOURCES t c = rw (← c.from-i.ensures) (sym (resource_past _ _ _ _ _ (c.args.steps - 1) (omega arith) _ c.if-i-ge-RESOURCES.true))
 
 pub from_resource-returns : goal.from_resource-returns
-from_resource-returns t c = c.from_thread.ensures ∙ sym (resource_on _ _ _ _ _ (c.args.steps - 1) (omega arith) _ c.if-i-ge-RESOURCES.false)
+from_resource-returns t c = rw (← c.from-i.ensures) (c.from_thread.ensures ∙ sym (resource_on _ _ _ _ _ (c.args.steps - 1) (omega arith) _ c.if-i-ge-RESOURCES.false))
 
 pub from_thread-returns-then-steps-eq0 : goal.from_thread-returns-then-steps-eq0
 from_thread-returns-then-steps-eq0 t c = sym (thread_none _ _ _ _ _ _ c.if-steps-eq0.true)
 
 pub from_thread-returns-then-i-ge-THREADS : goal.from_thread-returns-then-i-ge-THREADS
-from_thread-returns-then-i-ge-THREADS t c = sym (thread_past _ _ _ _ _ (c.args.steps - 1) (omega arith) _ c.if-i-ge-THREADS.true)
+from_thread-returns-then-i-ge-THREADS t c = rw (← c.from-i.ensures) (sym (thread_past _ _ _ _ _ (c.args.steps - 1) (omega arith) _ c.if-i-ge-THREADS.true))
 
 pub from_thread-returns-then-marked : goal.from_thread-returns-then-marked
 from_thread-returns-then-marked t c =
+    rw (← c.from-i.ensures) (
     c.mark-passed.ensures
     ∙ sym (thread_seen _ _ _ _ _ (c.args.steps - 1) (omega arith) _ c.if-i-ge-THREADS.false (sym c.marked.ensures ∙ c.if-marked.true))
+    )
 
-pub from_thread-returns-then-wide-ge-RESOURCES : goal.from_thread-returns-then-wide-ge-RESOURCES
-from_thread-returns-then-wide-ge-RESOURCES t c =
+pub from_thread-returns-then-r-ge-NOTHING : goal.from_thread-returns-then-r-ge-NOTHING
+from_thread-returns-then-r-ge-NOTHING t c =
+    rw (← c.from-i.ensures) (
     c.mark-passed.ensures
-    ∙ sym (thread_free _ _ _ _ _ (c.args.steps - 1) (omega arith) _ c.if-i-ge-THREADS.false (sym c.marked.ensures ∙ c.if-marked.false) (omega arith))
+    ∙ sym (thread_free _ _ _ _ _ (c.args.steps - 1) (omega arith) _ c.if-i-ge-THREADS.false (sym c.marked.ensures ∙ c.if-marked.false) c.if-r-ge-NOTHING.true)
+    )
 
 pub from_thread-returns : goal.from_thread-returns
 from_thread-returns t c =
+    rw (← c.from-i.ensures) (
     (rw c.mark-passed.ensures at c.from_resource.ensures)
-    ∙ sym (thread_on _ _ _ _ _ (c.args.steps - 1) (omega arith) _ c.if-i-ge-THREADS.false (sym c.marked.ensures ∙ c.if-marked.false) (omega arith))
+    ∙ sym (thread_on _ _ _ _ _ (c.args.steps - 1) (omega arith) _ c.if-i-ge-THREADS.false (sym c.marked.ensures ∙ c.if-marked.false) c.if-r-ge-NOTHING.false)
+    )
