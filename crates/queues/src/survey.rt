@@ -1,6 +1,6 @@
 // Whether the queues are right: lengths, entries, spare places, and that nobody waits in two. And what they say: who waits and who holds,
 // and in how many each thread stands.
-ghost use Rattle.std.specs.Prelude.{◌≡◌, true, ◌↔◌, ℕ, ◌<◌, ◌≤◌, MatchOption};
+ghost use Rattle.std.specs.Prelude.{◌≡◌, true, ◌↔◌, ℕ, ◌<◌, ◌≤◌, length, MatchOption};
 ghost use Rattle.table.specs.Table.{at};
 ghost use Rattle.table.specs.Code.Places.{entry};
 ghost use Rattle.queues.specs.Queues.{RowRight, Noted, Counted, Headed, RowsRight, Surveyed};
@@ -72,9 +72,10 @@ impl Survey {
         true
     }
 
-    // What the queues say, where they are right.
+    // What the queues say, where they are right. That the arrays have their sizes is said for those who reach them through a whole table.
     pub fn of(rows: &Rows, live: &[u8; Table::THREADS]) -> Option<Survey>
-        ensures { MatchOption result (¬ RowsRight rows.now.queue rows.now.length live.now 16) (λ s. RowsRight rows.now.queue rows.now.length live.now 16 × Surveyed rows.now.queue rows.now.length 16 s.graph.waits s.graph.holders s.standing) }
+        ensures sizes { (length rows.now.queue ≡ 512) × (length rows.now.length ≡ 16) }
+        ensures found { MatchOption result (¬ RowsRight rows.now.queue rows.now.length live.now 16) (λ s. RowsRight rows.now.queue rows.now.length live.now 16 × Surveyed rows.now.queue rows.now.length 16 s.graph.waits s.graph.holders s.standing) }
     {
         // A queue has 32 places.
         let too_long = Table::NOBODY < longest(&rows.length);
@@ -82,10 +83,7 @@ impl Survey {
             return None;
         }
         let mut found = Survey {
-            graph: Graph {
-                waits: [Table::NOTHING; Table::THREADS],
-                holders: [Table::NOBODY; Table::RESOURCES],
-            },
+            graph: Graph::empty(),
             standing: [0; Table::THREADS],
         };
         for r in 0..Table::NOTHING {

@@ -19,13 +19,13 @@ short : (lengths : List ℕ) (r n m : ℕ) → Max ◌≤◌ (Lengths lengths 16
 short lengths r n m longest l h e = omega (arith, longest.bound (at lengths n) (inr (r, h, ap (at lengths) e)))
 
 pub loop-r-init : goal.loop-r-init
-loop-r-init c = record { holders_size = refl; few = λ x. omega (arith, zeros 32 x); right = rows_none; known = surveyed_none }
+loop-r-init c = rw c.empty.ensures (record { holders_size = refl; few = λ x. omega (arith, zeros 32 x); right = rows_none; known = surveyed_none })
 
 pub note_row-requires : goal.note_row-requires
 note_row-requires c = (c.loop-r-test.true, short _ _ _ _ c.longest-too_long.ensures c.if-too_long.false c.loop-r-test.true c.from.ensures, c.loop-r.invariant.few)
 
-pub returns-then-not-spare_zero : goal.returns-then-not-spare_zero
-returns-then-not-spare_zero c =
+pub returns-then-not-spare_zero-clause-found : goal.returns-then-not-spare_zero-clause-found
+returns-then-not-spare_zero-clause-found c =
     λ rows.
     elim c.then-not-spare_zero.branch [
       | then-not-spare_zero-via-then-not-spare_zero w ↦
