@@ -4,3 +4,4 @@ pub mod Rules
 pub mod Law
 pub mod Passed
 pub mod Verdict
+pub mod Found
