@@ -62,7 +62,7 @@ impl Table {
             current_priority: [0; Table::THREADS],
             current_time: [0; Table::THREADS],
             rows: Rows {
-                queue: [0; 512],
+                queue: [0; Table::PLACES],
                 length: [0; Table::RESOURCES],
             },
             requests: [0; Table::THREADS],
