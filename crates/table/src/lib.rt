@@ -100,7 +100,7 @@ impl Table {
     }
 }
 
-// What the table has of one thread, but for its current precedence. A slot is made here and nowhere else.
+// What the table has of one thread, but for its current precedence: the same numbers, `live` too, since C fixes the table's.
 #[derive(Clone, Copy)]
 pub struct Slot {
     pub live: u8,
