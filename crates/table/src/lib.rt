@@ -3,7 +3,6 @@
 
 pub mod numbers;
 pub mod queues;
-pub mod running;
 pub mod workings;
 
 ghost use Rattle.std.specs.Prelude.{◌≡◌, ◌<◌};
@@ -111,19 +110,6 @@ pub struct Slot {
 }
 
 impl Slot {
-    // The slot of these numbers, as the table has them.
-    pub fn of(live: u8, priority: u8, time: u16, requests: u16, releases: u16) -> Slot
-        ensures { result ≡ record { live = live; priority = priority; time = time; requests = requests; releases = releases } }
-    {
-        Slot {
-            live,
-            priority,
-            time,
-            requests,
-            releases,
-        }
-    }
-
     // Live, with this priority, set at this time; its totals count from here.
     pub fn fresh(priority: u8, time: u16) -> Slot
         ensures { result ≡ fresh_slot priority time }
