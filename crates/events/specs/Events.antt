@@ -4,9 +4,9 @@ use Rattle.std.proofs.Math.Option.{Option, none, some}
 use Rattle.protocol.specs.Events.{Thread, Resource, Event, Create, Exit, Set, P, «V»}
 use Rattle.protocol.specs.Schedule.{release}
 use Rattle.table.specs.declared.Table.{Table}
-use Rattle.table.specs.declared.Slot.{Slot}
 use Rattle.table.specs.Table.{queues, slot, dead_slot}
 use Rattle.table.specs.Slots.{fresh_slot, set_slot, requested_slot, released_slot}
+unfoldable pub use Rattle.table.specs.Slots.{with_slot}
 use Rattle.table.specs.Compute.{is_live, is_higher, current}
 use Rattle.refusals.specs.declared.Record.{Record}
 
@@ -41,20 +41,6 @@ later t = record {
   rows = record { queue = t.rows.queue; length = t.rows.length };
   requests = t.requests;
   releases = t.releases;
-}
-
--- th has the slot s
-unfoldable pub with_slot : Table → Thread → Slot → Table
-with_slot t th s = record {
-  clock = t.clock;
-  live = set t.live th s.live;
-  priority = set t.priority th s.priority;
-  time = set t.time th s.time;
-  current_priority = t.current_priority;
-  current_time = t.current_time;
-  rows = record { queue = t.rows.queue; length = t.rows.length };
-  requests = set t.requests th s.requests;
-  releases = set t.releases th s.releases;
 }
 
 -- cs has the queue q, places beyond it zero

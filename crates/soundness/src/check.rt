@@ -7,8 +7,9 @@ ghost use Rattle.queues.specs.Queues.{RowsRight, Surveyed};
 ghost use Rattle.slots.specs.Slots.{AllAddUp};
 ghost use Rattle.soundness.specs.Checked.{CheckedRight};
 
-use chains::law::{law_values, same};
-use chains::ways::no_circle;
+use chains::law::same;
+use chains::old_law::law_values;
+use chains::old_ways::no_circle;
 use queues::survey::survey;
 use slots::right::slots_right;
 use slots::times::times_differ;

@@ -7,8 +7,8 @@ pub mod running;
 pub mod workings;
 
 ghost use Rattle.std.specs.Prelude.{◌≡◌, ◌<◌};
-ghost use Rattle.table.specs.Slots.{fresh_slot, set_slot, requested_slot, released_slot};
-ghost use Rattle.table.specs.Table.{empty, dead_slot};
+ghost use Rattle.table.specs.Slots.{fresh_slot, set_slot, requested_slot, released_slot, with_slot};
+ghost use Rattle.table.specs.Table.{empty, slot, dead_slot};
 
 // The queues: a row of 32 places for each resource, one row behind the other, and how many of them stand in use.
 #[repr(C)]
@@ -69,6 +69,35 @@ impl Table {
             releases: [0; Table::THREADS],
         }
     }
+
+    // The slot of a thread.
+    pub fn slot(&self, thread: u8) -> Slot
+        requires { thread < 32 }
+        ensures { result ≡ slot self.now thread }
+    {
+        let i = usize::from(thread);
+        Slot {
+            live: self.live[i],
+            priority: self.priority[i],
+            time: self.time[i],
+            requests: self.requests[i],
+            releases: self.releases[i],
+        }
+    }
+
+    // The thread has this slot from now on.
+    #[tactic(auto, unfolding(crate::specs::Slots::with_slot))]
+    pub fn set_slot(&mut self, thread: u8, slot: Slot)
+        requires { thread < 32 }
+        ensures { self.new ≡ with_slot self.old thread slot }
+    {
+        let i = usize::from(thread);
+        self.live[i] = slot.live;
+        self.priority[i] = slot.priority;
+        self.time[i] = slot.time;
+        self.requests[i] = slot.requests;
+        self.releases[i] = slot.releases;
+    }
 }
 
 // What the table has of one thread, but for its current precedence. A slot is made here and nowhere else.
@@ -99,48 +128,53 @@ impl Slot {
     pub fn fresh(priority: u8, time: u16) -> Slot
         ensures { result ≡ fresh_slot priority time }
     {
-        Slot::of(1, priority, time, 0, 0)
+        Slot {
+            live: 1,
+            priority,
+            time,
+            ..Slot::dead()
+        }
     }
 
     // Zero everywhere.
     pub fn dead() -> Slot
         ensures { result ≡ dead_slot }
     {
-        Slot::of(0, 0, 0, 0, 0)
+        Slot {
+            live: 0,
+            priority: 0,
+            time: 0,
+            requests: 0,
+            releases: 0,
+        }
     }
 
     // A new own priority, set at this time; the rest stays.
     pub fn anew(self, priority: u8, time: u16) -> Slot
         ensures { result ≡ set_slot self priority time }
     {
-        Slot::of(self.live, priority, time, self.requests, self.releases)
+        Slot {
+            priority,
+            time,
+            ..self
+        }
     }
 
     // One request more.
-    pub fn requested(self) -> Slot
+    pub fn requested(mut self) -> Slot
         requires { self.requests < 65535 }
         ensures { result ≡ requested_slot self }
     {
-        Slot::of(
-            self.live,
-            self.priority,
-            self.time,
-            self.requests + 1,
-            self.releases,
-        )
+        self.requests += 1;
+        self
     }
 
     // One release more.
-    pub fn released(self) -> Slot
+    pub fn released(mut self) -> Slot
         requires { self.releases < 65535 }
         ensures { result ≡ released_slot self }
     {
-        Slot::of(
-            self.live,
-            self.priority,
-            self.time,
-            self.requests,
-            self.releases + 1,
-        )
+        self.releases += 1;
+        self
     }
 }

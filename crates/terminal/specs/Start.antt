@@ -1,4 +1,4 @@
--- Document 02, K3: "Starting a shipment creates them in order on the empty table". Assumes nothing.
+-- "Starting a shipment creates them in order on the empty table". Assumes nothing.
 use Rattle.std.specs.Prelude.{ℕ, zero, suc, List, [], ◌∷◌, ◌++◌, replicate}
 use Rattle.protocol.specs.Events.{Thread}
 use Rattle.table.specs.declared.Table.{Table}
