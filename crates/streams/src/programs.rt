@@ -41,18 +41,18 @@ fn work_through<
     'a,
     R: Files,
     E: From<Failure<'a>> + Drop,
-    F: FnMut(&mut R::File, &'a [u8]) -> Result<u64, E>,
+    F: FnMut(R::File, &'a [u8]) -> Result<u64, E>,
 >(rt: &R, names: &[&'a str], mut work: F) -> Result<(), E>
     requires { F.IsAlwaysCallable work }
 {
     for name in names {
         let what = name.as_bytes();
-        let mut file = File::open(rt, *name).map_err(|error| Failure {
+        let file = File::open(rt, *name).map_err(|error| Failure {
             what,
             records: 0,
             error,
         })?;
-        work(&mut file, what)?;
+        work(file, what)?;
     }
     Ok(())
 }
@@ -62,7 +62,7 @@ pub fn run_on_files<
     'a,
     R: Files + Eprint,
     E: From<Failure<'a>> + Display + Drop,
-    F: FnMut(&mut R::File, &'a [u8]) -> Result<u64, E>,
+    F: FnMut(R::File, &'a [u8]) -> Result<u64, E>,
 >(rt: &R, names: &[&'a str], work: F)
     requires { F.IsAlwaysCallable work }
 {
