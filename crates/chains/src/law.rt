@@ -9,17 +9,16 @@ use table::queues::longest;
 use table::workings::Workings;
 use table::{Rows, Table};
 
-// The highest of start and the numbers of the waiters in the first n places of r.
+// The highest of start and the numbers of the waiters in the first n places of r: whoever stands at the first holds r.
 fn highest_waiter<'a>(rows: &'a Rows, w: &'a Workings, r: usize, n: usize, start: u32) -> u32
     requires { (r < 16) × (n ≤ 32) }
     ensures { Max ◌≤◌ (only start ∪ WaitersNumbers rows.now.queue w.now.current r n) result }
 {
     let from = r * Table::THREADS;
     let mut best = start;
-    for i in 1..n {
-        let v = value(&w.current, rows.queue[from + i]);
-        if best < v {
-            best = v;
+    if let [_, waiters @ ..] = &rows.queue[from..from + n] {
+        for x in waiters {
+            best = best.max(value(&w.current, *x));
         }
     }
     best
@@ -76,11 +75,5 @@ pub fn afresh<'a>(rows: &'a Rows, w: &'a Workings, own: u32, t: u8) -> u32
 pub fn same<'a>(a: &'a [u32; Table::THREADS], b: &'a [u32; Table::THREADS]) -> bool
     ensures { (result ≡ true) ↔ ((t : ℕ) → t < 32 → at a.now t ≡ at b.now t) }
 {
-    let mut equal = true;
-    for i in 0..Table::THREADS {
-        if a[i] != b[i] {
-            equal = false;
-        }
-    }
-    equal
+    a == b
 }

@@ -16,15 +16,11 @@ pub fn from_thread(graph: &Graph, seen: u32, way: u32, t: u8, steps: u32) -> u32
         return 0;
     }
     let i = usize::from(t);
-    if Table::THREADS <= i {
+    let Some(&r) = graph.waits.get(i) else {
         return 0;
-    }
+    };
     let passed = mark(way, i);
-    if marked(seen, i) {
-        return passed;
-    }
-    let r = graph.waits[i];
-    if Table::NOTHING <= r {
+    if marked(seen, i) || Table::NOTHING <= r {
         return passed;
     }
     from_resource(graph, seen, passed, r, steps - 1)
@@ -38,11 +34,10 @@ pub fn from_resource(graph: &Graph, seen: u32, way: u32, r: u8, steps: u32) -> u
     if steps == 0 {
         return 0;
     }
-    let i = usize::from(r);
-    if Table::RESOURCES <= i {
-        return 0;
+    match graph.holders.get(usize::from(r)) {
+        Some(&holder) => from_thread(graph, seen, way, holder, steps - 1),
+        None => 0,
     }
-    from_thread(graph, seen, way, graph.holders[i], steps - 1)
 }
 
 // More nodes than a way without a circle has: it passes each of 32 threads and of 16 resources once at most.

@@ -4,7 +4,6 @@ use Rattle.std.proofs.Math.Option.{Option, none, some}
 use Rattle.protocol.specs.Events.{Thread, Resource, Event, Create, Exit, Set, P, «V»}
 use Rattle.protocol.specs.Schedule.{release}
 use Rattle.table.specs.declared.Table.{Table}
-use Rattle.table.specs.declared.Slot.{Slot}
 use Rattle.table.specs.Table.{queues, slot, dead_slot}
 use Rattle.table.specs.Slots.{fresh_slot, set_slot, requested_slot, released_slot}
 unfoldable pub use Rattle.table.specs.Slots.{with_slot}

@@ -1,19 +1,19 @@
 -- The step, from the answer of the refusals to the table that it stores. Assumes nothing.
 use Prim.Native.Nat.{ℕ}
-use mathlib.Core.Path.{◌≡◌, refl, sym, ap, ◌∙◌}
-use mathlib.Core.Bool.{true, false}
+use mathlib.Core.Path.{◌≡◌, sym, ◌∙◌}
 use mathlib.Core.Option.{Option, some}
 use mathlib.Core.List.{List}
 use native.Mathlib.Decide.{ℕ_discrete}
-use native.Mathlib.Omega.{arith}
+use Rattle.std.specs.Prelude.{Result, Ok, Err, MatchResult, IfOk}
 use Rattle.table.specs.declared.Table.{Table}
 use Rattle.table.specs.Table.{queues}
 use Rattle.table.specs.Compute.{runner}
 use Rattle.table.specs.Code.Tracks.{Known}
-use Rattle.soundness.specs.declared.check.Checked.{Checked}
-use Rattle.soundness.specs.Checked.{CheckedRight}
-use Rattle.soundness.proofs.Found.{sound_is}
 use Rattle.refusals.specs.declared.Record.{Record}
+use Rattle.refusals.specs.declared.kinds.Kind.{Kind}
+use Rattle.refusals.specs.declared.reasons.Reason.{Reason}
+use Rattle.refusals.specs.Numbers.{kind_number, reason_number, refusal_number}
+use Rattle.refusals.proofs.Given.Parts.{above_0}
 use Rattle.refusals.specs.Refusals.{refusals, lowest}
 use Rattle.events.specs.Events.{heir, event_of}
 use Rattle.events.proofs.Accepted.Named.{named_same}
@@ -23,23 +23,14 @@ use Rattle.apply.specs.Accepted.{Carried, made_table}
 use Rattle.locks.specs.declared.Answer.{Answer}
 use Rattle.locks.specs.Answers.{accepted, answer_of}
 use Rattle.locks.specs.Code.Judged.{Judged}
-use Rattle.locks.proofs.Answered.{not_sound, turned_down, let_through}
+use Rattle.locks.proofs.Answered.{turned_down, let_through}
 
-module _ (t : Table) (e : Record) (a : Answer) where
-  -- a table that isn't sound
-  pub judged_unsound : {owns currents : List ℕ} {c : Checked} → CheckedRight t owns currents c → c.sound ≡ false → a ≡ record { number = 1; running = 32; count = 0 } → Judged t e c.sound a
-  judged_unsound k s q = record {
-    stands = λ n. rw q (sym (not_sound t e (sym (sound_is t k) ∙ s)));
-    passes = λ z. let w : a.number ≡ 1 = ap (λ (x : Answer). x.number) q in absurd (omega arith);
-  }
-
-  -- a sound one
-  pub judged_sound : {waits holders owns currents : List ℕ} {n r : ℕ} → Known t waits holders owns currents → n ≡ lowest (refusals t e) → r ≡ runner t → a ≡ record { number = n; running = r; count = 0 } → Judged t e true a
-  judged_sound {n = n} {r = r} k number_is runs_is q =
-      let w : a.number ≡ n = ap (λ (x : Answer). x.number) q in record {
-        stands = λ z. rw q (sym (turned_down t e n r k.shape k.sound number_is (λ y. z (w ∙ y)) runs_is));
-        passes = λ z. (refl, sym number_is ∙ sym w ∙ z);
-      }
+-- the answer of the refusals on a sound table, made into the step's
+pub judged : (t : Table) (e : Record) {waits holders owns currents : List ℕ} {runs : ℕ} → Known t waits holders owns currents → runs ≡ runner t → (r : Result Kind Reason) (j : Result Kind Answer) →
+    refusal_number r ≡ lowest (refusals t e) → IfOk r (λ kind. kind_number kind ≡ e.kind) →
+    MatchResult r (λ kind. j ≡ Ok kind) (λ reason. j ≡ Err (record { number = reason_number reason; running = runs; count = 0 })) → Judged t e j
+judged t e k runs_is (Ok kind) j number_is kind_is is = rw is (kind_is, sym number_is)
+judged t e k runs_is (Err reason) j number_is kind_is is = rw is (sym (turned_down t e _ _ k.shape k.sound number_is (above_0 reason) runs_is))
 
 -- what is stored, and the answer of what an accepted event leaves, is the step's result, where at a V the heir follows
 pub stepped : (t : Table) (e : Record) → lowest (refusals t e) ≡ 0 → {next : Option ℕ} → (e.kind ≡ 5 → next ≡ heir t (queues t e.argument)) → {queue lengths : List ℕ} {o : Outcome} → Carried t e next queue lengths o →

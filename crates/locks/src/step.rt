@@ -2,14 +2,15 @@
 ghost use Rattle.std.specs.Prelude.{◌≡◌};
 ghost use Rattle.locks.specs.Answers.{answer_of};
 
-use crate::Done;
-use crate::judge::{judge, reply};
+use crate::judge::judge;
+use crate::{Answer, Done};
 use apply::finish::carry_out;
-use refusals::Record;
+use refusals::{Reason, Record};
 use release::heir::follower;
 use soundness::check::check;
 use table::numbers::numbers;
 use table::queues::wide;
+use table::workings::{Graph, Workings};
 use table::{Slot, Table};
 
 // The table given is changed where it stands, and the result is made once, at the end. Of its arrays only one at a time can be lent to be
@@ -36,47 +37,58 @@ pub fn step(mut t: Table, e: Record) -> Done
         &own,
         &current,
     );
+    if !c.sound {
+        return Done {
+            table: t,
+            answer: Answer::refused(Reason::UnsoundTable, Table::NOBODY),
+        };
+    }
+    let waits = c.waits;
+    let holders = c.holders;
+    let graph = Graph { waits, holders };
+    let w = Workings {
+        graph,
+        own,
+        current,
+    };
+    if let Err(answer) = judge(&t, &w, e) {
+        return Done { table: t, answer };
+    }
     let mut lengths = t.rows.length;
-    let mut answer = reply(1, Table::NOBODY, 0);
-    if c.sound {
-        answer = judge(t.clock, &t.live, &c.waits, &c.holders, &current, e);
-    }
-    if answer.number == 0 {
-        let i = wide(e.thread);
-        let before = Slot::of(
-            t.live[i],
-            t.priority[i],
-            t.time[i],
-            t.requests[i],
-            t.releases[i],
-        );
-        let next = follower(&t.rows.queue, &t.rows.length, &current, e);
-        let clock = t.clock;
-        let o = carry_out(
-            &mut t.rows.queue,
-            &mut lengths,
-            &own,
-            c.waits,
-            c.holders,
-            &mut current,
-            before,
-            clock,
-            e,
-            next,
-        );
-        let slot = o.slot;
-        let priority = o.priority;
-        let time = o.time;
-        t.clock = clock + 1;
-        t.live[i] = slot.live;
-        t.priority[i] = slot.priority;
-        t.time[i] = slot.time;
-        t.requests[i] = slot.requests;
-        t.releases[i] = slot.releases;
-        t.current_priority = priority;
-        t.current_time = time;
-        t.rows.length = lengths;
-        answer = reply(0, o.running, o.count);
-    }
+    let i = wide(e.thread);
+    let before = Slot::of(
+        t.live[i],
+        t.priority[i],
+        t.time[i],
+        t.requests[i],
+        t.releases[i],
+    );
+    let next = follower(&t.rows.queue, &t.rows.length, &current, e);
+    let clock = t.clock;
+    let o = carry_out(
+        &mut t.rows.queue,
+        &mut lengths,
+        &own,
+        waits,
+        holders,
+        &mut current,
+        before,
+        clock,
+        e,
+        next,
+    );
+    let slot = o.slot;
+    let priority = o.priority;
+    let time = o.time;
+    t.clock = clock + 1;
+    t.live[i] = slot.live;
+    t.priority[i] = slot.priority;
+    t.time[i] = slot.time;
+    t.requests[i] = slot.requests;
+    t.releases[i] = slot.releases;
+    t.current_priority = priority;
+    t.current_time = time;
+    t.rows.length = lengths;
+    let answer = Answer::accepted(o.running, o.count);
     Done { table: t, answer }
 }

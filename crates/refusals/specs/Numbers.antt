@@ -1,5 +1,5 @@
 -- The numbers of the kinds and of the reasons for a refusal. Assumes nothing.
-use Rattle.std.specs.Prelude.{ℕ, ◌≡◌, ◌⊎◌, ◌<◌, Result, MatchResult}
+use Rattle.std.specs.Prelude.{ℕ, ◌≡◌, ◌⊎◌, ◌<◌, Result, Ok, Err, MatchResult}
 use Rattle.refusals.specs.declared.kinds.Kind.{Kind}
 use Rattle.refusals.specs.declared.kinds.Kind.TheVariants.{Create, Exit, Set, P, V}
 use Rattle.refusals.specs.declared.reasons.Reason.{Reason}
@@ -30,3 +30,8 @@ reason_number StillHolds = 11
 -- the result is the kind of this number, or the reason that no kind has it
 abbrev pub NamesKind : ℕ → Result Kind Reason → Type 0
 NamesKind number result = MatchResult result (λ kind. kind_number kind ≡ number) (λ reason. (reason ≡ NoSuchKind) × ((number ≡ 0) ⊎ (5 < number)))
+
+-- 0 where nothing is refused, and otherwise the number of the reason
+abbrev pub refusal_number : {T : Type 0} → Result T Reason → ℕ
+refusal_number (Ok _) = 0
+refusal_number (Err reason) = reason_number reason

@@ -1,4 +1,4 @@
--- Document 01's definitions on a table once more, and document 02's of the totals, as tests and values that compute. Assumes nothing.
+-- What is defined on a table, its totals' balance too, once more as tests and values that compute. Assumes nothing.
 use Rattle.std.specs.Prelude.{ℕ, zero, suc, ◌+◌, ◌*◌, Bool, true, false, cond, not, ◌&&◌, ◌||◌, List, [], ◌∷◌, eqb, ltb, leb}
 use Rattle.protocol.specs.Events.{Thread, Resource, Precedence}
 use Rattle.table.specs.declared.Table.{Table}

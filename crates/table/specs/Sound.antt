@@ -1,4 +1,4 @@
--- Document 01: a table is sound when these rules hold, in its order; document 02's K2 adds two. Assumes nothing.
+-- When a table is sound: rules for its fields, its queues, its totals and its stored current precedences. Assumes nothing.
 use Rattle.std.specs.Prelude.{ℕ, ◌+◌, ◌*◌, ◌≤◌, ◌<◌, ◌≡◌}
 use Rattle.protocol.specs.Sets.{◌∈◌, set, Distinct}
 use Rattle.protocol.specs.Events.{Thread, Resource}
@@ -19,14 +19,14 @@ pub record QueuesRight (t : Table) : Type 0 where
   pub live_entries : (cs : Resource) (th : Thread) → th ∈ set (queues t cs) → th ∈ live t
   pub differ : (cs : Resource) → Distinct (queues t cs)
 
--- document 02, K2: "requests equal releases plus resources held, plus 1 if the thread waits. That balance, and that no total is above the clock, join the rules of a sound table"
+-- requests equal releases plus resources held, plus 1 if the thread waits, and no total is above the clock
 pub record TotalsRight (t : Table) : Type 0 where
   -- of each live thread
   pub balance : (th : Thread) → th ∈ live t → Balanced (queues t) th (at t.requests th) (at t.releases th)
   -- of every slot
   pub low : (th : Thread) → (at t.requests th ≤ t.clock) × (at t.releases th ≤ t.clock)
 
--- document 01's rules, in their order, but for what they say of the stored current precedences
+-- the rules that say nothing of the totals and of the stored current precedences
 pub record Bare (t : Table) : Type 0 where
   -- the clock is in range
   pub clock : t.clock ≤ 65535

@@ -1,4 +1,4 @@
--- Document 01's table: what each field means, and document 000's definitions read off it. Assumes nothing.
+-- The table: what each field means, and who holds, waits, is ready and runs, read off it. Assumes nothing.
 use Rattle.std.specs.Prelude.{ℕ, ◌*◌, ◌≡◌, List, get_or, take, drop, replicate}
 use Rattle.protocol.specs.Sets.{SetOf, ◌∈◌, Highest}
 use Rattle.protocol.specs.Events.{Thread, Resource, Precedence, ◌≼◌}

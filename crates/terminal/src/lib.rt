@@ -14,10 +14,5 @@ use refusals::{Kind, Record};
 fn creation(id: u8, priority: u8) -> Record
     ensures { result ≡ creation id priority }
 {
-    Record {
-        kind: u8::from(Kind::Create),
-        thread: id,
-        argument: priority,
-        zero: 0,
-    }
+    Record::new(Kind::Create, id, priority)
 }

@@ -1,4 +1,4 @@
--- What document 01's definitions compute of a table that keeps the rules, read off its fields. Assumes nothing.
+-- What is defined on a table that keeps the rules, read off its fields. Assumes nothing.
 use Prim.Native.Nat.{ℕ, ◌*◌, ◌<◌}
 use mathlib.Core.Path.{◌≡◌, refl, sym, ◌∙◌}
 use mathlib.Core.Bool.{Bool, true, false, cond}
