@@ -1,3 +1,4 @@
 -- The local law along them.
 pub mod Maxima
+pub mod Alike
 pub mod Children

@@ -4,30 +4,22 @@ ghost use Rattle.protocol.specs.Sets.{only, ◌∪◌, Max};
 ghost use Rattle.table.specs.Table.{at};
 ghost use Rattle.chains.specs.Law.{WaitersNumbers, entries_of, Compared};
 
-use table::Table;
 use table::numbers::value;
-use table::queues::{longest, wide};
+use table::queues::longest;
+use table::workings::Workings;
+use table::{Rows, Table};
 
-// The highest of start and the numbers of the waiters in the first n places of r.
-fn highest_waiter<'a>(
-    queue: &'a [u8; Table::PLACES],
-    current: &'a [u32; Table::THREADS],
-    r: usize,
-    n: usize,
-    start: u32,
-) -> u32
+// The highest of start and the numbers of the waiters in the first n places of r: whoever stands at the first holds r.
+fn highest_waiter<'a>(rows: &'a Rows, w: &'a Workings, r: usize, n: usize, start: u32) -> u32
     requires { (r < 16) × (n ≤ 32) }
-    ensures { Max ◌≤◌ (only start ∪ WaitersNumbers queue.now current.now r n) result }
+    ensures { Max ◌≤◌ (only start ∪ WaitersNumbers rows.now.queue w.now.current r n) result }
 {
     let from = r * Table::THREADS;
     let mut best = start;
-    let mut i = 1;
-    while i < n {
-        let v = value(current, queue[from + i]);
-        if best < v {
-            best = v;
+    if let [_, waiters @ ..] = &rows.queue[from..from + n] {
+        for x in waiters {
+            best = best.max(value(&w.current, *x));
         }
-        i += 1;
     }
     best
 }
@@ -36,7 +28,7 @@ fn highest_waiter<'a>(
 fn entries(size: u8) -> usize
     ensures { (result ≡ entries_of size) × (result ≤ 32) }
 {
-    let n = size as usize;
+    let n = usize::from(size);
     if Table::THREADS < n { 0 } else { n }
 }
 
@@ -49,51 +41,31 @@ fn rows_to_compare(lengths: &[u8; Table::RESOURCES]) -> usize
 }
 
 // What each thread is worth by the law, in one pass over the queues.
-pub fn law_values<'a>(
-    queue: &'a [u8; Table::PLACES],
-    lengths: &'a [u8; Table::RESOURCES],
-    holders: &'a [u8; Table::RESOURCES],
-    own: [u32; Table::THREADS],
-    current: &'a [u32; Table::THREADS],
-) -> [u32; Table::THREADS]
-    ensures { (t : ℕ) → t < 32 → Max ◌≤◌ (Compared queue.now lengths.now holders.now current.now 16 (at own t) t) (at result t) }
+pub fn law_values<'a>(rows: &'a Rows, w: &'a Workings) -> [u32; Table::THREADS]
+    ensures { (t : ℕ) → t < 32 → Max ◌≤◌ (Compared rows.now.queue rows.now.length w.now.graph.holders w.now.current 16 (at w.now.own t) t) (at result t) }
 {
-    let rows = rows_to_compare(lengths);
-    let mut best = own;
-    let mut r = 0;
-    while r < rows {
-        if 1 < lengths[r] {
-            let h = wide(holders[r]);
-            if h < Table::THREADS {
-                best[h] = highest_waiter(queue, current, r, entries(lengths[r]), best[h]);
-            }
+    let mut best = w.own;
+    for r in 0..rows_to_compare(&rows.length) {
+        let n = rows.length[r];
+        let h = usize::from(w.graph.holders[r]);
+        if 1 < n && h < Table::THREADS {
+            best[h] = highest_waiter(rows, w, r, entries(n), best[h]);
         }
-        r += 1;
     }
     best
 }
 
 // One thread worked out afresh from its direct waiters. Who holds is tested before the length, since most resources fail at that; where
 // the length is 0 or 1 nobody is compared.
-pub fn afresh<'a>(
-    queue: &'a [u8; Table::PLACES],
-    lengths: &'a [u8; Table::RESOURCES],
-    holders: &'a [u8; Table::RESOURCES],
-    own: u32,
-    current: &'a [u32; Table::THREADS],
-    t: u8,
-) -> u32
-    ensures { Max ◌≤◌ (Compared queue.now lengths.now holders.now current.now 16 own t) result }
+pub fn afresh<'a>(rows: &'a Rows, w: &'a Workings, own: u32, t: u8) -> u32
+    ensures { Max ◌≤◌ (Compared rows.now.queue rows.now.length w.now.graph.holders w.now.current 16 own t) result }
 {
-    let rows = rows_to_compare(lengths);
     let mut best = own;
-    let mut r = 0;
-    while r < rows {
-        let held = holders[r] == t;
+    for r in 0..rows_to_compare(&rows.length) {
+        let held = w.graph.holders[r] == t;
         if held {
-            best = highest_waiter(queue, current, r, entries(lengths[r]), best);
+            best = highest_waiter(rows, w, r, entries(rows.length[r]), best);
         }
-        r += 1;
     }
     best
 }
@@ -103,13 +75,5 @@ pub fn afresh<'a>(
 pub fn same<'a>(a: &'a [u32; Table::THREADS], b: &'a [u32; Table::THREADS]) -> bool
     ensures { (result ≡ true) ↔ ((t : ℕ) → t < 32 → at a.now t ≡ at b.now t) }
 {
-    let mut equal = true;
-    let mut i = 0;
-    while i < Table::THREADS {
-        if a[i] != b[i] {
-            equal = false;
-        }
-        i += 1;
-    }
-    equal
+    a == b
 }

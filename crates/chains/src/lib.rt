@@ -3,4 +3,6 @@
 
 pub mod law;
 pub mod marks;
+pub mod old_law;
+pub mod old_ways;
 pub mod ways;

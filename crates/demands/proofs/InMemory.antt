@@ -30,18 +30,18 @@ module _ (t : Table) (r : Right t) where
       fits e h k = (omega (arith, ap (λ (q : Precedence). q.0) e), omega (arith, ap (λ (q : Precedence). q.1) e))
 
   -- a place of a queue names a live thread or is zero
-  place_fits : (cs i : ℕ) → cs < 16 → i < 32 → entry t.queue cs i ≤ 255
-  place_fits cs i low small = by_cases (dec_lt i (at t.length cs))
-      (λ h. let l = live_low t r.0 (entry t.queue cs i) (b.queues_right.live_entries cs (entry t.queue cs i) ((in_queue t r.0 b.queues_right.lengths cs (entry t.queue cs i)).1 (i, h, refl))) in omega arith)
+  place_fits : (cs i : ℕ) → cs < 16 → i < 32 → entry t.rows.queue cs i ≤ 255
+  place_fits cs i low small = by_cases (dec_lt i (at t.rows.length cs))
+      (λ h. let l = live_low t r.0 (entry t.rows.queue cs i) (b.queues_right.live_entries cs (entry t.rows.queue cs i) ((in_queue t r.0 b.queues_right.lengths cs (entry t.rows.queue cs i)).1 (i, h, refl))) in omega arith)
       (λ n. omega (arith, b.spare_places cs i low (omega arith) small))
     where
       b : Bare t
       b = r.1.bare
 
-  queue_fits : (i : ℕ) → at t.queue i ≤ 255
+  queue_fits : (i : ℕ) → at t.rows.queue i ≤ 255
   queue_fits i = by_cases (dec_lt i 512)
-      (λ h. subst (λ (k : ℕ). at t.queue k ≤ 255) (omega arith) (place_fits (i / 32) (i % 32) (omega arith) (omega arith)))
-      (λ n. omega (arith, beyond t.queue i (omega (arith, r.0.queue_size))))
+      (λ h. subst (λ (k : ℕ). at t.rows.queue k ≤ 255) (omega arith) (place_fits (i / 32) (i % 32) (omega arith) (omega arith)))
+      (λ n. omega (arith, beyond t.rows.queue i (omega (arith, r.0.queue_size))))
 
   pub right_any : AnyTable t
   right_any = record {

@@ -32,13 +32,13 @@ same_array {xs} {ys} a b same = ext_get_or 0 xs ys (a.size ∙ sym b.size) (λ i
 
 module _ (t : Table) (a : AnyTable t) (sound : Sound t) where
   -- the length of a queue, as a list and in the table
-  length_is : (cs : ℕ) → cs < 16 → at t.length cs ≡ length (queues t cs)
+  length_is : (cs : ℕ) → cs < 16 → at t.rows.length cs ≡ length (queues t cs)
   length_is cs low = sym (queue_length t (sound_good t (any_shape a) sound) cs low)
 
   -- a place of a queue has what stands there in the list, and zero past its end
-  place_is : (cs i : ℕ) → cs < 16 → i < 32 → entry t.queue cs i ≡ at (queues t cs) i
-  place_is cs i low small = by_cases (dec_lt i (at t.length cs))
-      (λ h. sym (part_at t.queue (cs * 32) (at t.length cs) (inr (omega (arith, a.queue.size, sound.bare.queues_right.lengths cs))) i h))
+  place_is : (cs i : ℕ) → cs < 16 → i < 32 → entry t.rows.queue cs i ≡ at (queues t cs) i
+  place_is cs i low small = by_cases (dec_lt i (at t.rows.length cs))
+      (λ h. sym (part_at t.rows.queue (cs * 32) (at t.rows.length cs) (inr (omega (arith, a.queue.size, sound.bare.queues_right.lengths cs))) i h))
       (λ n. sound.bare.spare_places cs i low (omega arith) small ∙ sym (beyond (queues t cs) i (omega (arith, length_is cs low))))
 
 module _ {s : State} (v : Valid s) (t u : Table) (a : AnyTable t) (b : AnyTable u) (p : Sound t) (q : Sound u) (m : Shows t s) (n : Shows u s) where
@@ -63,7 +63,7 @@ module _ {s : State} (v : Valid s) (t u : Table) (a : AnyTable t) (b : AnyTable 
   same_queue cs = m.queues_are cs ∙ sym (n.queues_are cs)
 
   -- and so the same at each place of the queues
-  same_place : (cs i : ℕ) → cs < 16 → i < 32 → entry t.queue cs i ≡ entry u.queue cs i
+  same_place : (cs i : ℕ) → cs < 16 → i < 32 → entry t.rows.queue cs i ≡ entry u.rows.queue cs i
   same_place cs i low small = place_is t a p cs i low small ∙ ap (λ (xs : List ℕ). at xs i) (same_queue cs) ∙ sym (place_is u b q cs i low small)
 
   -- a sound table in memory that shows a state is the only one
@@ -75,8 +75,7 @@ module _ {s : State} (v : Valid s) (t u : Table) (a : AnyTable t) (b : AnyTable 
     time = same_array a.time b.time (λ th h j. ((same_slot th).0 j).time) i;
     current_priority = same_array a.current_priority b.current_priority (λ th h j. ((same_slot th).1 j).0) i;
     current_time = same_array a.current_time b.current_time (λ th h j. ((same_slot th).1 j).1) i;
-    queue = same_array a.queue b.queue (λ k h. subst (λ (x : ℕ). at t.queue x ≡ at u.queue x) (omega arith) (same_place (k / 32) (k % 32) (omega arith) (omega arith))) i;
-    length = same_array a.length b.length (λ cs h. length_is t a p cs h ∙ ap length (same_queue cs) ∙ sym (length_is u b q cs h)) i;
+    rows = record { queue = same_array a.queue b.queue (λ k h. subst (λ (x : ℕ). at t.rows.queue x ≡ at u.rows.queue x) (omega arith) (same_place (k / 32) (k % 32) (omega arith) (omega arith))) i; length = same_array a.length b.length (λ cs h. length_is t a p cs h ∙ ap length (same_queue cs) ∙ sym (length_is u b q cs h)) i };
     requests = same_array a.requests b.requests (λ th h j. ((same_slot th).0 j).requests) i;
     releases = same_array a.releases b.releases (λ th h j. ((same_slot th).0 j).releases) i;
   }

@@ -20,7 +20,9 @@ use Rattle.table.specs.declared.Table.{Table}
 use Rattle.table.specs.Table.{at}
 use Rattle.table.proofs.Sound.Typed.{typed_size}
 use Rattle.table.specs.contracts.Table as table
+use Rattle.table.specs.contracts.Rows as rows
 use Rattle.table.proofs.Table.TheLaws as TableLaws
+use Rattle.table.proofs.Rows.TheLaws as RowsLaws
 use Rattle.refusals.specs.declared.Record.{Record}
 use Rattle.refusals.specs.contracts.Record as four_bytes
 use Rattle.refusals.proofs.Record.TheLaws as FourBytesLaws
@@ -66,19 +68,19 @@ word x = ((λ h. omega arith), (λ h. omega arith))
 -- a table that the type holds is any table, and the other way round
 pub table_is : (t : Table) → Is table.the_row t (vals table.the_type TableLaws.the_laws t) ↔ AnyTable t
 table_is t = let bytes = array w8 255 byte in let words = array w16 65535 word in (
-  λ p. let o = owed table.the_type TableLaws.the_laws t _ p in record {
+  λ p. let o = owed table.the_type TableLaws.the_laws t _ p in let r = owed rows.the_type RowsLaws.the_laws t.rows _ o.1.1.1.1.1.1.0 in record {
     clock = (word t.clock).0 o.0.1;
     live = (bytes 32 t.live).0 o.1.0;
     priority = (bytes 32 t.priority).0 o.1.1.0;
     time = (words 32 t.time).0 o.1.1.1.0;
     current_priority = (bytes 32 t.current_priority).0 o.1.1.1.1.0;
     current_time = (words 32 t.current_time).0 o.1.1.1.1.1.0;
-    queue = (bytes 512 t.queue).0 o.1.1.1.1.1.1.0;
-    length = (bytes 16 t.length).0 o.1.1.1.1.1.1.1.0;
-    requests = (words 32 t.requests).0 o.1.1.1.1.1.1.1.1.0;
-    releases = (words 32 t.releases).0 o.1.1.1.1.1.1.1.1.1.0;
+    queue = (bytes 512 t.rows.queue).0 r.0;
+    length = (bytes 16 t.rows.length).0 r.1.0;
+    requests = (words 32 t.requests).0 o.1.1.1.1.1.1.1.0;
+    releases = (words 32 t.releases).0 o.1.1.1.1.1.1.1.1.0;
   },
-  λ a. owes table.the_type TableLaws.the_laws t ((refl, (word t.clock).1 a.clock), ((bytes 32 t.live).1 a.live, ((bytes 32 t.priority).1 a.priority, ((words 32 t.time).1 a.time, ((bytes 32 t.current_priority).1 a.current_priority, ((words 32 t.current_time).1 a.current_time, ((bytes 512 t.queue).1 a.queue, ((bytes 16 t.length).1 a.length, ((words 32 t.requests).1 a.requests, ((words 32 t.releases).1 a.releases, tt)))))))))),
+  λ a. owes table.the_type TableLaws.the_laws t ((refl, (word t.clock).1 a.clock), ((bytes 32 t.live).1 a.live, ((bytes 32 t.priority).1 a.priority, ((words 32 t.time).1 a.time, ((bytes 32 t.current_priority).1 a.current_priority, ((words 32 t.current_time).1 a.current_time, (owes rows.the_type RowsLaws.the_laws t.rows ((bytes 512 t.rows.queue).1 a.queue, ((bytes 16 t.rows.length).1 a.length, tt)), ((words 32 t.requests).1 a.requests, ((words 32 t.releases).1 a.releases, tt))))))))),
 )
 
 -- and so for records

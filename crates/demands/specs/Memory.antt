@@ -17,8 +17,8 @@ pub record AnyTable (t : Table) : Type 0 where
   pub time : Array 32 65535 t.time
   pub current_priority : Array 32 255 t.current_priority
   pub current_time : Array 32 65535 t.current_time
-  pub queue : Array 512 255 t.queue
-  pub length : Array 16 255 t.length
+  pub queue : Array 512 255 t.rows.queue
+  pub length : Array 16 255 t.rows.length
   pub requests : Array 32 65535 t.requests
   pub releases : Array 32 65535 t.releases
 

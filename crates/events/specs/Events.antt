@@ -4,9 +4,9 @@ use Rattle.std.proofs.Math.Option.{Option, none, some}
 use Rattle.protocol.specs.Events.{Thread, Resource, Event, Create, Exit, Set, P, «V»}
 use Rattle.protocol.specs.Schedule.{release}
 use Rattle.table.specs.declared.Table.{Table}
-use Rattle.table.specs.declared.Slot.{Slot}
 use Rattle.table.specs.Table.{queues, slot, dead_slot}
 use Rattle.table.specs.Slots.{fresh_slot, set_slot, requested_slot, released_slot}
+unfoldable pub use Rattle.table.specs.Slots.{with_slot}
 use Rattle.table.specs.Compute.{is_live, is_higher, current}
 use Rattle.refusals.specs.declared.Record.{Record}
 
@@ -24,8 +24,7 @@ settled t = record {
   time = t.time;
   current_priority = tabulate 32 (λ th. let p = (current t th).0 in cond (is_live t th) p 0);
   current_time = tabulate 32 (λ th. let p = (current t th).1 in cond (is_live t th) p 0);
-  queue = t.queue;
-  length = t.length;
+  rows = record { queue = t.rows.queue; length = t.rows.length };
   requests = t.requests;
   releases = t.releases;
 }
@@ -39,25 +38,9 @@ later t = record {
   time = t.time;
   current_priority = t.current_priority;
   current_time = t.current_time;
-  queue = t.queue;
-  length = t.length;
+  rows = record { queue = t.rows.queue; length = t.rows.length };
   requests = t.requests;
   releases = t.releases;
-}
-
--- th has the slot s
-unfoldable pub with_slot : Table → Thread → Slot → Table
-with_slot t th s = record {
-  clock = t.clock;
-  live = set t.live th s.live;
-  priority = set t.priority th s.priority;
-  time = set t.time th s.time;
-  current_priority = t.current_priority;
-  current_time = t.current_time;
-  queue = t.queue;
-  length = t.length;
-  requests = set t.requests th s.requests;
-  releases = set t.releases th s.releases;
 }
 
 -- cs has the queue q, places beyond it zero
@@ -69,8 +52,7 @@ with_queue t cs q = record {
   time = t.time;
   current_priority = t.current_priority;
   current_time = t.current_time;
-  queue = take (cs * 32) t.queue ++ (q ++ (replicate (32 - length q) 0 ++ drop (cs * 32 + 32) t.queue));
-  length = set t.length cs (length q);
+  rows = record { queue = take (cs * 32) t.rows.queue ++ (q ++ (replicate (32 - length q) 0 ++ drop (cs * 32 + 32) t.rows.queue)); length = set t.rows.length cs (length q) };
   requests = t.requests;
   releases = t.releases;
 }
@@ -84,8 +66,7 @@ with_totals t requests releases = record {
   time = t.time;
   current_priority = t.current_priority;
   current_time = t.current_time;
-  queue = t.queue;
-  length = t.length;
+  rows = record { queue = t.rows.queue; length = t.rows.length };
   requests = requests;
   releases = releases;
 }

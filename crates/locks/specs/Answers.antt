@@ -1,4 +1,4 @@
--- Document 01: the answer to a record. Assumes nothing.
+-- The answer to a record. Assumes nothing.
 use Rattle.std.specs.Prelude.{ℕ, cond, eqb}
 use Rattle.std.proofs.Math.Option.{Option, none, some}
 use Rattle.protocol.specs.Events.{Event}

@@ -1,38 +1,20 @@
-// The answer before any event is done: whether the record is refused.
-ghost use Rattle.std.specs.Prelude.{◌≡◌, true, List, ℕ};
-ghost use Rattle.table.specs.declared.Table.{Table};
+// Whether a record is refused, before anything is changed.
+ghost use Rattle.std.specs.Prelude.{◌<◌, IfOk};
 ghost use Rattle.table.specs.Code.Tracks.{Known};
 ghost use Rattle.locks.specs.Code.Judged.{Judged};
 
 use crate::Answer;
-use refusals::Record;
 use refusals::refusal::refusal;
+use refusals::{Kind, Record};
 use table::Table;
-use table::running::running;
+use table::workings::Workings;
 
-// An answer of these numbers.
-pub fn reply(number: u8, running: u8, count: u8) -> Answer
-    ensures { result ≡ record { number = number; running = running; count = count } }
+// On a sound table: the answer that refuses the record, or its kind, which is to be carried out.
+pub fn judge(t: &Table, w: &Workings, e: Record) -> Result<Kind, Answer>
+    ensures judged { Known t.now w.now.graph.waits w.now.graph.holders w.now.own w.now.current → Judged t.now e result }
+    ensures thread { IfOk result (λ _. e.thread < 32) }
+    ensures clock { IfOk result (λ _. t.now.clock < 65535) }
 {
-    Answer {
-        number,
-        running,
-        count,
-    }
-}
-
-// The answer on a sound table. Where its number is 0 it does not stand: the event is to be carried out.
-pub fn judge<'a>(
-    clock: u16,
-    live: &'a [u8; Table::THREADS],
-    waits: &'a [u8; Table::THREADS],
-    holders: &'a [u8; Table::RESOURCES],
-    current: &'a [u32; Table::THREADS],
-    e: Record,
-) -> Answer
-    ensures { (t : Table) (owns : List ℕ) → Known t waits.now holders.now owns current.now → t.clock ≡ clock → t.live ≡ live.now → Judged t e true result }
-{
-    let runs = running(waits, current);
-    let number = refusal(clock, live, waits, holders, runs, e);
-    reply(number, runs, 0)
+    let runs = w.running();
+    refusal(t, &w.graph, runs, e).map_err(|reason| Answer::refused(reason, runs))
 }

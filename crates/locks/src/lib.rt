@@ -4,6 +4,10 @@
 mod judge;
 pub mod step;
 
+ghost use Rattle.std.specs.Prelude.{◌≡◌};
+ghost use Rattle.refusals.specs.Numbers.{reason_number};
+
+use refusals::Reason;
 pub use refusals::Record;
 use table::Table;
 
@@ -14,6 +18,29 @@ pub struct Answer {
     pub number: u8,
     pub running: u8,
     pub count: u8,
+}
+
+impl Answer {
+    // To a record that is refused: nothing was worked out afresh.
+    pub fn refused(reason: Reason, running: u8) -> Answer
+        ensures { result ≡ record { number = reason_number reason; running = running; count = 0 } }
+    {
+        Answer {
+            number: u8::from(reason),
+            running,
+            count: 0,
+        }
+    }
+
+    pub fn accepted(running: u8, count: u8) -> Answer
+        ensures { result ≡ record { number = 0; running = running; count = count } }
+    {
+        Answer {
+            number: 0,
+            running,
+            count,
+        }
+    }
 }
 
 // The table afterwards, and the answer, in this order (docs/DECISIONS.md, "What a call costs").

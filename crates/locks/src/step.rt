@@ -2,18 +2,17 @@
 ghost use Rattle.std.specs.Prelude.{◌≡◌};
 ghost use Rattle.locks.specs.Answers.{answer_of};
 
-use crate::Done;
-use crate::judge::{judge, reply};
+use crate::judge::judge;
+use crate::{Answer, Done};
 use apply::finish::carry_out;
-use refusals::Record;
+use refusals::{Kind, Reason, Record};
 use release::heir::follower;
 use soundness::check::check;
+use table::Table;
 use table::numbers::numbers;
-use table::queues::wide;
-use table::{Slot, Table};
+use table::workings::{Graph, Workings};
 
-// The table given is changed where it stands, and the result is made once, at the end. Of its arrays only one at a time can be lent to be
-// changed, so the queues' lengths are changed in a copy, made right after the test (docs/DECISIONS.md, "What a call costs").
+// The table given is changed where it stands.
 pub fn step(mut t: Table, e: Record) -> Done
     ensures { result ≡ answer_of t e }
 {
@@ -21,7 +20,7 @@ pub fn step(mut t: Table, e: Record) -> Done
     // (docs/DECISIONS.md, "What a call costs").
     let of_own = numbers(&t.live, &t.priority, &t.time);
     let own = of_own;
-    let mut current = numbers(&t.live, &t.current_priority, &t.current_time);
+    let current = numbers(&t.live, &t.current_priority, &t.current_time);
     let c = check(
         t.clock,
         &t.live,
@@ -29,54 +28,36 @@ pub fn step(mut t: Table, e: Record) -> Done
         &t.time,
         &t.current_priority,
         &t.current_time,
-        &t.queue,
-        &t.length,
+        &t.rows.queue,
+        &t.rows.length,
         &t.requests,
         &t.releases,
         &own,
         &current,
     );
-    let mut lengths = t.length;
-    let mut answer = reply(1, Table::NOBODY, 0);
-    if c.sound {
-        answer = judge(t.clock, &t.live, &c.waits, &c.holders, &current, e);
+    if !c.sound {
+        return Done {
+            table: t,
+            answer: Answer::refused(Reason::UnsoundTable, Table::NOBODY),
+        };
     }
-    if answer.number == 0 {
-        let i = wide(e.thread);
-        let before = Slot::of(
-            t.live[i],
-            t.priority[i],
-            t.time[i],
-            t.requests[i],
-            t.releases[i],
-        );
-        let next = follower(&t.queue, &t.length, &current, e);
-        let clock = t.clock;
-        let o = carry_out(
-            &mut t.queue,
-            &mut lengths,
-            &own,
-            c.waits,
-            c.holders,
-            &mut current,
-            before,
-            clock,
-            e,
-            next,
-        );
-        let slot = o.slot;
-        let priority = o.priority;
-        let time = o.time;
-        t.clock = clock + 1;
-        t.live[i] = slot.live;
-        t.priority[i] = slot.priority;
-        t.time[i] = slot.time;
-        t.requests[i] = slot.requests;
-        t.releases[i] = slot.releases;
-        t.current_priority = priority;
-        t.current_time = time;
-        t.length = lengths;
-        answer = reply(0, o.running, o.count);
-    }
+    let waits = c.waits;
+    let holders = c.holders;
+    let graph = Graph { waits, holders };
+    let w = Workings {
+        graph,
+        own,
+        current,
+    };
+    let kind = match judge(&t, &w, e) {
+        Ok(kind) => kind,
+        Err(answer) => return Done { table: t, answer },
+    };
+    let next = match kind {
+        Kind::V => follower(&t.rows, &w.current, e.argument),
+        _ => None,
+    };
+    let o = carry_out(&mut t, w, kind, e, next);
+    let answer = Answer::accepted(o.running, o.count);
     Done { table: t, answer }
 }

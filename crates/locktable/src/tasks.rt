@@ -3,11 +3,10 @@
 ghost use Rattle.std.specs.Prelude.{◌≡◌};
 ghost use Rattle.terminal.specs.Start.{started};
 ghost use Rattle.terminal.specs.Spare.{spare_answer};
-ghost use Rattle.terminal.specs.declared.spare.Wanted.TheVariants.{At, Unsaid};
 
 use locks::Answer;
 use table::Table;
-use terminal::spare::{spare_at, spare_unsaid};
+use terminal::spare::spare;
 use terminal::start::start;
 
 // A shipment starts: whatever the lent table held, the fixed tasks are created on the empty one.
@@ -19,19 +18,19 @@ pub fn terminal_start(t: &mut Table) -> Answer
     done.answer
 }
 
-// A spare task is added, without a priority or with one.
+// A spare task is added, without a priority or with one: two calls, since C has no Option.
 pub fn terminal_spare(t: &mut Table, id: u8) -> Answer
-    ensures { (result ≡ (spare_answer t.old id Unsaid).answer) × (t.new ≡ (spare_answer t.old id Unsaid).table) }
+    ensures { (result ≡ (spare_answer t.old id None).answer) × (t.new ≡ (spare_answer t.old id None).table) }
 {
-    let done = spare_unsaid(*t, id);
+    let done = spare(*t, id, None);
     *t = done.table;
     done.answer
 }
 
 pub fn terminal_spare_at(t: &mut Table, id: u8, priority: u8) -> Answer
-    ensures { (result ≡ (spare_answer t.old id (At priority)).answer) × (t.new ≡ (spare_answer t.old id (At priority)).table) }
+    ensures { (result ≡ (spare_answer t.old id (Some priority)).answer) × (t.new ≡ (spare_answer t.old id (Some priority)).table) }
 {
-    let done = spare_at(*t, id, priority);
+    let done = spare(*t, id, Some(priority));
     *t = done.table;
     done.answer
 }

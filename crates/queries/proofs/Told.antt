@@ -18,5 +18,5 @@ waiters_length [] = refl
 waiters_length (h ∷ ws) = omega arith
 
 -- by its length
-pub waiters_are : (t : Table) → Good t → (cs : Resource) → cs < 16 → waiters (queues t cs) ≡ at t.length cs - 1
+pub waiters_are : (t : Table) → Good t → (cs : Resource) → cs < 16 → waiters (queues t cs) ≡ at t.rows.length cs - 1
 waiters_are t g cs h = omega (arith, waiters_length (queues t cs), queue_length t g cs h)

@@ -1,4 +1,4 @@
--- Document 01's table of refusals in the words of its definitions: which numbers apply to a record. Assumes nothing.
+-- Which refusals apply to a record, and the one that is given: the lowest. Assumes nothing.
 use Rattle.std.specs.Prelude.{ℕ, ◌≤◌, ◌<◌, ◌≡◌, ◌≢◌, ◌⊎◌}
 use Rattle.protocol.specs.Sets.{◌∈◌}
 use Rattle.protocol.specs.Events.{Resource}

@@ -1,4 +1,4 @@
--- Document 01, "Event records, refusals and their order", as tests that compute: one list in three parts. Assumes nothing.
+-- The refusals and their order as tests that compute: one list in three parts. Assumes nothing.
 use Rattle.std.specs.Prelude.{ℕ, Bool, cond, not, ◌&&◌, ◌||◌, List, [], ◌∷◌, ◌++◌, eqb, ltb, leb}
 use Rattle.protocol.specs.Events.{Thread, Resource}
 use Rattle.table.specs.declared.Table.{Table}

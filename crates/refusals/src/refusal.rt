@@ -1,141 +1,106 @@
-// The number of a record's refusal on a sound table: a test for each, in document 01's order. Refusal 1 is the test of the table.
-ghost use Rattle.std.specs.Prelude.{◌≡◌, true, false, ◌↔◌, ◌⊎◌, List, ℕ, ◌<◌};
-ghost use Rattle.table.specs.declared.Table.{Table};
-ghost use Rattle.table.specs.Table.{at};
+// Why a record is refused on a sound table: a test for each reason, in the order of their numbers. That the table is sound was tested before.
+ghost use Rattle.std.specs.Prelude.{◌≡◌, ◌⊎◌, List, ℕ, ◌<◌, IfOk, false};
 ghost use Rattle.table.specs.Compute.{runner};
 ghost use Rattle.table.specs.Code.Tracks.{Known};
 ghost use Rattle.chains.specs.Marks.{marked};
 ghost use Rattle.chains.specs.Ways.{resource_way};
+ghost use Rattle.refusals.specs.Numbers.{kind_number, refusal_number};
 ghost use Rattle.refusals.specs.Refusals.{lowest, malformed, by_record, by_thread, by_queues, refusals};
 
-use crate::Record;
+use crate::{Kind, Reason, Record};
 use chains::marks::marked;
 use chains::ways::{NODES, from_resource};
 use table::Table;
-use table::queues::wide;
+use table::workings::Graph;
 
 // P or V with a resource above 15; Exit with an argument other than 0; fourth byte not 0.
-fn malformed(e: Record) -> bool
-    ensures { result ≡ malformed e }
+#[tactic(auto, unfolding(crate::specs::Refusals::malformed))]
+fn malformed(kind: Kind, e: Record) -> bool
+    ensures form { kind_number kind ≡ e.kind → result ≡ malformed e }
+    ensures resource { result ≡ false → (kind ≡ Kind.P) ⊎ (kind ≡ Kind.V) → e.argument < 16 }
 {
-    let named = (e.kind == Record::P) | (e.kind == Record::V);
-    (named & (Table::RESOURCES <= wide(e.argument)))
-        | (((e.kind == Record::EXIT) & (e.argument != 0)) | (e.zero != 0))
+    let wrong = match kind {
+        Kind::P | Kind::V => Table::RESOURCES <= usize::from(e.argument),
+        Kind::Exit => e.argument != 0,
+        Kind::Create | Kind::Set => false,
+    };
+    wrong || e.zero != 0
 }
 
-// The refusals by the record alone: 2, 3 or 4; 0 if none applies.
-fn by_record(e: Record) -> u8
-    ensures { result ≡ lowest (by_record e) }
+// The reasons in the record alone.
+#[tactic(auto, unfolding(crate::specs::Refusals::lowest, crate::specs::Refusals::by_record))]
+fn by_record(e: Record) -> Result<Kind, Reason>
+    ensures number { refusal_number result ≡ lowest (by_record e) }
+    ensures kind { IfOk result (λ kind. kind_number kind ≡ e.kind) }
+    ensures thread { IfOk result (λ _. e.thread < 32) }
+    ensures resource { IfOk result (λ kind. (kind ≡ Kind.P) ⊎ (kind ≡ Kind.V) → e.argument < 16) }
 {
-    let known = (Record::CREATE <= e.kind) & (e.kind <= Record::V);
-    if !known {
-        return 2;
+    let kind = Kind::try_from(e.kind)?;
+    if Table::THREADS <= usize::from(e.thread) {
+        return Err(Reason::NoSuchThread);
     }
-    if Table::THREADS <= wide(e.thread) {
-        return 3;
+    if malformed(kind, e) {
+        return Err(Reason::Malformed);
     }
-    if malformed(e) {
-        return 4;
-    }
-    0
+    Ok(kind)
 }
 
-// The refusals by the clock and the thread: 5 to 8; 0 if none applies. Past 7 the thread is live, so 8 does not ask that again.
-fn by_thread(clock: u16, live: &[u8; Table::THREADS], running: u8, e: Record) -> u8
+// The reasons in the clock and the thread.
+#[tactic(auto, unfolding(crate::specs::Refusals::lowest, crate::specs::Refusals::by_thread, table::specs::Compute::is_live))]
+fn by_thread(t: &Table, running: u8, kind: Kind, e: Record) -> Result<(), Reason>
     requires { e.thread < 32 }
-    ensures { (t : Table) → t.clock ≡ clock → t.live ≡ live.now → running ≡ runner t → result ≡ lowest (by_thread t e) }
+    ensures number { kind_number kind ≡ e.kind → running ≡ runner t.now → refusal_number result ≡ lowest (by_thread t.now e) }
+    ensures clock { IfOk result (λ _. t.now.clock < 65535) }
 {
-    let t = e.thread;
-    let create = e.kind == Record::CREATE;
-    let is_live = live[wide(t)] == 1;
-    if clock == Table::EVENTS {
-        return 5;
+    let is_live = t.live[usize::from(e.thread)] == 1;
+    if t.clock == Table::EVENTS {
+        return Err(Reason::ClockAtEnd);
     }
-    if create & is_live {
-        return 6;
+    match kind {
+        Kind::Create if is_live => Err(Reason::AlreadyLive),
+        Kind::Create => Ok(()),
+        _ if !is_live => Err(Reason::NotLive),
+        _ if running != e.thread => Err(Reason::NotRunning),
+        _ => Ok(()),
     }
-    if !create & !is_live {
-        return 7;
-    }
-    if !create & (running != t) {
-        return 8;
-    }
-    0
 }
 
-// Whether t holds some resource.
-fn holds_any(holders: &[u8; Table::RESOURCES], t: u8) -> bool
-    ensures { (result ≡ true) ↔ ((r : ℕ) × (r < 16) × (at holders.now r ≡ t)) }
-{
-    let mut r = 0;
-    while r < Table::RESOURCES {
-        if holders[r] == t {
-            return true;
-        }
-        r += 1;
-    }
-    false
-}
-
-// Whether a chain leads from resource r to t: whether t is on the way from r. From a free one none leads on.
-fn leads<'a>(
-    waits: &'a [u8; Table::THREADS],
-    holders: &'a [u8; Table::RESOURCES],
-    r: u8,
-    t: u8,
-) -> bool
+// Whether a chain leads from resource r to thread th: whether th is on the way from r. From a free one none leads on.
+fn leads(graph: &Graph, r: u8, th: u8) -> bool
     requires { r < 16 }
-    ensures { result ≡ marked (resource_way 64 waits.now holders.now 0 0 r) t }
+    ensures { result ≡ marked (resource_way 64 graph.now.waits graph.now.holders 0 0 r) th }
 {
-    if holders[wide(r)] == Table::NOBODY {
+    if graph.holders[usize::from(r)] == Table::NOBODY {
         return false;
     }
-    let way = from_resource(waits, holders, 0, 0, r, NODES);
-    marked(way, t as usize)
+    let way = from_resource(graph, 0, 0, r, NODES);
+    marked(way, usize::from(th))
 }
 
-// The refusals by the queues: 9, 10 or 11; 0 if none applies. A P or V that names no resource was refused by its record.
-fn by_queues<'a>(
-    waits: &'a [u8; Table::THREADS],
-    holders: &'a [u8; Table::RESOURCES],
-    e: Record,
-) -> u8
-    requires { (e.kind ≡ 4) ⊎ (e.kind ≡ 5) → e.argument < 16 }
-    ensures { (t : Table) (owns currents : List ℕ) → Known t waits.now holders.now owns currents → e.thread < 32 → result ≡ lowest (by_queues t e) }
+// The reasons in the queues. A P or V that names no resource was refused by its record.
+#[tactic(auto, unfolding(crate::specs::Refusals::lowest, crate::specs::Refusals::by_queues))]
+fn by_queues(graph: &Graph, kind: Kind, e: Record) -> Result<(), Reason>
+    requires { (kind ≡ Kind.P) ⊎ (kind ≡ Kind.V) → e.argument < 16 }
+    ensures { (t : Table) (owns currents : List ℕ) → Known t graph.now.waits graph.now.holders owns currents → kind_number kind ≡ e.kind → e.thread < 32 →
+        refusal_number result ≡ lowest (by_queues t e) }
 {
-    let kind = e.kind;
-    let t = e.thread;
-    let r = e.argument;
-    if kind == Record::P && leads(waits, holders, r, t) {
-        return 9;
+    match kind {
+        Kind::P if leads(graph, e.argument, e.thread) => Err(Reason::ClosesCircle),
+        Kind::V if graph.holders[usize::from(e.argument)] != e.thread => Err(Reason::DoesNotHold),
+        Kind::Exit if graph.holders.contains(&e.thread) => Err(Reason::StillHolds),
+        _ => Ok(()),
     }
-    if kind == Record::V && holders[wide(r)] != t {
-        return 10;
-    }
-    if kind == Record::EXIT && holds_any(holders, t) {
-        return 11;
-    }
-    0
 }
 
-// The lowest number that applies on a sound table, 0 if none does.
-pub fn refusal<'a>(
-    clock: u16,
-    live: &'a [u8; Table::THREADS],
-    waits: &'a [u8; Table::THREADS],
-    holders: &'a [u8; Table::RESOURCES],
-    running: u8,
-    e: Record,
-) -> u8
-    ensures { (t : Table) (owns currents : List ℕ) → Known t waits.now holders.now owns currents → t.clock ≡ clock → t.live ≡ live.now → running ≡ runner t → result ≡ lowest (refusals t e) }
+// The kind of a record that may be carried out, or the reason of lowest number that refuses it.
+pub fn refusal(t: &Table, graph: &Graph, running: u8, e: Record) -> Result<Kind, Reason>
+    ensures number { (owns currents : List ℕ) → Known t.now graph.now.waits graph.now.holders owns currents → running ≡ runner t.now → refusal_number result ≡ lowest (refusals t.now e) }
+    ensures kind { IfOk result (λ kind. kind_number kind ≡ e.kind) }
+    ensures thread { IfOk result (λ _. e.thread < 32) }
+    ensures clock { IfOk result (λ _. t.now.clock < 65535) }
 {
-    let of_record = by_record(e);
-    if of_record != 0 {
-        return of_record;
-    }
-    let of_thread = by_thread(clock, live, running, e);
-    if of_thread != 0 {
-        return of_thread;
-    }
-    by_queues(waits, holders, e)
+    let kind = by_record(e)?;
+    by_thread(t, running, kind, e)?;
+    by_queues(graph, kind, e)?;
+    Ok(kind)
 }

@@ -73,12 +73,12 @@ module _ (t : Table) {waiting holders owns currents : List ℕ} (k : Known t wai
   others_lawful y (l, n) m = law_passed t k early v y l (others_not y n) (λ h. absurd (m (hd_one (queues t cs) y th h.1 (release_head v).1)))
 
   -- the numbers of those who waited, as the code compares them
-  pub waiters_numbers : (m : ℕ) → Max ◌≤◌ (WaitersNumbers t.queue currents cs (at t.length cs)) m → Max ◌≤◌ (image (at currents) (λ u. Waits t u cs)) m
+  pub waiters_numbers : (m : ℕ) → Max ◌≤◌ (WaitersNumbers t.rows.queue currents cs (at t.rows.length cs)) m → Max ◌≤◌ (image (at currents) (λ u. Waits t u cs)) m
   waiters_numbers m = max_map ◌≤◌ ≤_total
-      (λ a w. (entry t.queue cs w.0, behind_waits t k.shape lengths_right (entry t.queue cs w.0) cs (k.sound.bare.queues_right.differ cs) (w.0, w.1, w.2, refl), w.3))
+      (λ a w. (entry t.rows.queue cs w.0, behind_waits t k.shape lengths_right (entry t.rows.queue cs w.0) cs (k.sound.bare.queues_right.differ cs) (w.0, w.1, w.2, refl), w.3))
       (λ a w. let p = waits_behind t k.shape lengths_right w.0 cs w.1 in (p.0, p.1, p.2, w.2 ∙ ap (at currents) (sym p.3)))
     where
-      lengths_right : (r : ℕ) → at t.length r ≤ 32
+      lengths_right : (r : ℕ) → at t.rows.length r ≤ 32
       lengths_right = k.sound.bare.queues_right.lengths
 
   -- by the law b has the greatest of them then
@@ -87,7 +87,7 @@ module _ (t : Table) {waiting holders owns currents : List ℕ} (k : Known t wai
       (heir_local (release_passes t (known_good t k) v) ◌≤◌ ≤_total (own_rank t (known_good t k)) (at currents) (known_lawful t k b b_live) m top))
 
   -- The releaser is worked out over the arrays of that table; m is the greatest number of those who waited.
-  module _ (sized : Sized waiting holders currents) (first : ℕ) (first-is : Max ◌≤◌ (Compared handed.queue handed.length (set holders cs b) currents 16 (at owns th) th) first)
+  module _ (sized : Sized waiting holders currents) (first : ℕ) (first-is : Max ◌≤◌ (Compared handed.rows.queue handed.rows.length (set holders cs b) currents 16 (at owns th) th) first)
       (m : ℕ) (top : Max ◌≤◌ (image (at currents) (λ u. Waits t u cs)) m) where
     holders_right : (r : ℕ) → r < 16 → at (set holders cs b) r ≡ holder handed r
     holders_right = holders_passed t k early v sized.holders_size b (first_is_b (queues t cs) b b_waits)

@@ -1,4 +1,4 @@
--- V: the arrays that it leaves are those of the table that document 01 defines. Assumes nothing.
+-- V: the arrays that it leaves are those of the table after the event. Assumes nothing.
 use Prim.Native.Nat.{ℕ, ◌*◌, ◌-◌, ◌≤◌, ◌<◌}
 use mathlib.Core.Path.{◌≡◌, refl, sym, ap, ◌∙◌}
 use mathlib.Core.Option.{Option, none, some}
@@ -24,6 +24,7 @@ use Rattle.events.specs.Count.{count, release_count}
 use Rattle.events.specs.Code.Permits.{Permits}
 use Rattle.events.specs.Code.Rows.{Row, rewritten}
 use Rattle.events.specs.Code.Work.{DoneWith}
+use Rattle.events.proofs.Queues.Written.{row_is, emptied}
 use Rattle.events.proofs.Kept.Queues.{release_passes, release_low}
 use Rattle.release.proofs.Shift.{handed_length}
 use Rattle.release.proofs.Passed.{release_head, left, passed_on, waits_passed, dead_passed, law_passed, holders_passed, numbers_passed}
@@ -35,9 +36,13 @@ alone [] th d h idle = absurd h.0
 alone (x ∷ []) th d h idle = rw h.1
 alone (x ∷ (y ∷ ys)) th d h idle = absurd (idle y (behind_waiting x (y ∷ ys) y d (inl refl)))
 
+-- the row of a queue of one entry, once that is gone
+emptied_row : (xs : List ℕ) (r : ℕ) → Row xs r 1 → set xs (r * 32) 0 ≡ rewritten xs (r * 32) []
+emptied_row xs r w = row_is xs (r * 32) [] (omega (arith, w.size, w.resource)) (omega arith) (set xs (r * 32) 0) (emptied xs (r * 32) (omega (arith, w.size, w.resource)) w.spare)
+
 module _ (t : Table) {waiting holders owns currents : List ℕ} (k : Known t waiting holders owns currents) (early : t.clock < 65535) where
   -- the row that is written anew
-  pub row : {th cs : ℕ} {next : Option ℕ} → Permits t («V» th cs next) → Row t.queue cs (at t.length cs)
+  pub row : {th cs : ℕ} {next : Option ℕ} → Permits t («V» th cs next) → Row t.rows.queue cs (at t.rows.length cs)
   row {th} {cs} v = record {
     size = k.shape.queue_size;
     resource = release_low t (known_good t k) v;
@@ -56,7 +61,7 @@ module _ (t : Table) {waiting holders owns currents : List ℕ} (k : Known t wai
     nothing_left = ap (λ (q : List ℕ). leave q none) only_th
 
     -- the thread's was the only entry
-    pub last_one : at t.length cs ≡ 1
+    pub last_one : at t.rows.length cs ≡ 1
     last_one = sym (queue_length t (known_good t k) cs (release_low t (known_good t k) v)) ∙ ap length only_th
 
     nobody : (x : ℕ) → ¬ Holding (left t k early v) x
@@ -70,37 +75,37 @@ module _ (t : Table) {waiting holders owns currents : List ℕ} (k : Known t wai
       currents_right = numbers_passed t k early v currents (λ y l. law_passed t k early v y l (nobody y) (λ h. (release_passes t (known_good t k) v).follows)) (dead_passed t k early v);
     }
 
-    pub vacated : Sized waiting holders currents → DoneWith t («V» th cs none) (rewritten t.queue (cs * 32) []) (set t.length cs (at t.length cs - 1)) (set holders cs 32) waiting currents 0
+    pub vacated : Sized waiting holders currents → DoneWith t («V» th cs none) (set t.rows.queue (cs * 32) 0) (set t.rows.length cs (at t.rows.length cs - 1)) (set holders cs 32) waiting currents 0
     unfolding changed with_queue count release_count
     vacated sized = record {
-      queue_is = ap (rewritten t.queue (cs * 32)) (sym nothing_left);
-      lengths_are = ap (set t.length cs) (omega (arith, last_one, ap length nothing_left));
+      queue_is = emptied_row t.rows.queue cs (rw last_one at (row v)) ∙ ap (rewritten t.rows.queue (cs * 32)) (sym nothing_left);
+      lengths_are = ap (set t.rows.length cs) (omega (arith, last_one, ap length nothing_left));
       tracks = vacated_tracks sized;
       counted = refl;
     }
 
   -- who stands at place p follows
-  module _ {th cs : ℕ} (p : ℕ) (v : Permits t («V» th cs (some (entry t.queue cs p)))) (behind : 1 ≤ p) (within : p < at t.length cs) where
+  module _ {th cs : ℕ} (p : ℕ) (v : Permits t («V» th cs (some (entry t.rows.queue cs p)))) (behind : 1 ≤ p) (within : p < at t.rows.length cs) where
     -- that is b
     abbrev b : ℕ
-    b = entry t.queue cs p
+    b = entry t.rows.queue cs p
 
     -- the places and the lengths afterwards
     abbrev places_left : List ℕ
-    places_left = rewritten t.queue (cs * 32) (leave (queues t cs) (some b))
+    places_left = rewritten t.rows.queue (cs * 32) (leave (queues t cs) (some b))
 
     abbrev lengths_left : List ℕ
-    lengths_left = set t.length cs (at t.length cs - 1)
+    lengths_left = set t.rows.length cs (at t.rows.length cs - 1)
 
-    shorter : length (leave (queues t cs) (some b)) ≡ at t.length cs - 1
-    shorter = handed_length t.queue cs p (at t.length cs) (row v) behind within
+    shorter : length (leave (queues t cs) (some b)) ≡ at t.rows.length cs - 1
+    shorter = handed_length t.rows.queue cs p (at t.rows.length cs) (row v) behind within
 
     pub handed_on : Sized waiting holders currents → (first : ℕ) → Max ◌≤◌ (Compared places_left lengths_left (set holders cs b) currents 16 (at owns th) th) first →
-        (m : ℕ) → Max ◌≤◌ (WaitersNumbers t.queue currents cs (at t.length cs)) m → DoneWith t («V» th cs (some b)) places_left lengths_left (set holders cs b) (set waiting b 16) (set (set currents th first) b m) 2
+        (m : ℕ) → Max ◌≤◌ (WaitersNumbers t.rows.queue currents cs (at t.rows.length cs)) m → DoneWith t («V» th cs (some b)) places_left lengths_left (set holders cs b) (set waiting b 16) (set (set currents th first) b m) 2
     unfolding changed with_queue count release_count
     handed_on sized first first-is m top = record {
       queue_is = refl;
-      lengths_are = ap (set t.length cs) (sym shorter);
+      lengths_are = ap (set t.rows.length cs) (sym shorter);
       tracks = followed t k early v sized first (rw (← shorter) at first-is) m (waiters_numbers t k early v m top);
       counted = refl;
     }

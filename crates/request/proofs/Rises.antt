@@ -42,7 +42,7 @@ module _ {A B : SetOf ℕ} {o m v x : ℕ} (c e : ℕ → ℕ) (top : Max ◌≤
 module _ {b a : Table} {gb : Good b} {g : Good a} {waiting holders owns : List ℕ} {before : ℕ → ℕ} (k : Walks b a gb g waiting holders owns before) (v : ℕ) where
   -- the walk stands at x, which is to have the higher of its number and v: so it is all the way up
   pub rising : {x n : ℕ} → Climb (hops a g) x n → (c : List ℕ) → length c ≡ 32 → StandsAt a g before (at c) x → Local ◌≤◌ (hops a g) (own_rank a g) (at c) x (max (at c x) v) →
-      Rising a.queue a.length holders waiting owns v c x (suc n)
+      Rising a.rows.queue a.rows.length holders waiting owns v c x (suc n)
   rising (stop {t = x} f) c size w m = rises (thread_low a g x w.here) (law_gives k c x (max (at c x) v) w.here m) (λ rose low. absurd (f (blocker a x) (up k x w.here low).1))
   rising (hop {t = x} {h = h} {n = n} j r) c size w m = rises {c = c} {x = x} {k = suc n} (thread_low a g x w.here) (law_gives k c x (max (at c x) v) w.here m)
       (λ rose low. rw ((up k x w.here low).0 ∙ child_blocker a g.bare.one_wait (resource_low a g) x h j) (rising r (set c x v) (length-set c x v ∙ size) (next rose) (higher rose)))

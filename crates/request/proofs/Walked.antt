@@ -1,4 +1,4 @@
--- The code's way up the holders: what it leaves are the current precedences, and what it counts is document 01's walk. Assumes nothing.
+-- The code's way up the holders: what it leaves are the current precedences, and what it counts is the walk as it is defined. Assumes nothing.
 use Prim.Native.Nat.{ℕ, ◌≤◌, ◌<◌}
 use mathlib.Core.Path.{◌≡◌, refl, sym, ap, subst, ◌∙◌}
 use mathlib.Core.List.{List}
@@ -34,7 +34,7 @@ pub record Walks (b a : Table) (gb : Good b) (ga : Good a) (waiting holders owns
 module _ {b a : Table} {gb : Good b} {g : Good a} {waiting holders owns : List ℕ} {before : ℕ → ℕ} (k : Walks b a gb g waiting holders owns before) where
   -- working x out afresh from the numbers c gives m, as the code has it
   abbrev pub Gives : List ℕ → ℕ → ℕ → Type 0
-  Gives c x m = Max ◌≤◌ (Compared a.queue a.length holders c 16 (at owns x) x) m
+  Gives c x m = Max ◌≤◌ (Compared a.rows.queue a.rows.length holders c 16 (at owns x) x) m
 
   -- and as the law has it
   pub law_gives : (c : List ℕ) (x m : ℕ) → x ∈ live a → Local ◌≤◌ (hops a g) (own_rank a g) (at c) x m → Gives c x m
@@ -70,7 +70,7 @@ module _ {b a : Table} {gb : Good b} {g : Good a} {waiting holders owns : List �
   untouched : (c : List ℕ) (x v y : ℕ) → x ∈ live a → ¬ (y ∈ live a) → at (set c x v) y ≡ at c y
   untouched c x v y l n = get_or-set_other c x y v 0 (λ q. n (rw q l))
 
-  pub climbed : {c e : List ℕ} {x n : ℕ} → Climbed a.queue a.length holders waiting owns c x n e → length c ≡ 32 → StandsAt a g before (at c) x → WalkedUp c x n e
+  pub climbed : {c e : List ℕ} {x n : ℕ} → Climbed a.rows.queue a.rows.length holders waiting owns c x n e → length c ≡ 32 → StandsAt a g before (at c) x → WalkedUp c x n e
   climbed (stays {c = c} {x = x} r) size w =
       let f : Afresh ◌≤◌ (hops a g) (own_rank a g) (at c) x (at c) = record { there = gives_law c x (at c x) w.here r; elsewhere = λ y n. refl } in record {
         worths = walk_ends a g before (at c) (at c) x w f (inl refl);

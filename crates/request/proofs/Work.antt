@@ -107,33 +107,33 @@ module _ {t : Table} {th cs : ℕ} {queue lengths holders waiting owns currents 
   dead_still = frame.dead_still t k.known k.early cs q resource fits
 
   -- the places and the lengths are those of the longer queue
-  length_is : at lengths cs ≡ at t.length cs
+  length_is : at lengths cs ≡ at t.rows.length cs
   length_is = ap (λ (l : List ℕ). at l cs) k.lengths_are
 
   pub room : at lengths cs < 32
   room = omega (arith, length_is, room_for t good cs th resource fits)
 
-  joined : (set queue (cs * 32 + at lengths cs) th ≡ after.queue) × (set lengths cs (at lengths cs + 1) ≡ after.length)
+  joined : (set queue (cs * 32 + at lengths cs) th ≡ after.rows.queue) × (set lengths cs (at lengths cs + 1) ≡ after.rows.length)
   unfolding with_queue
   joined = rw (k.queue_is, k.lengths_are, ← joined_length t good cs th resource) (joined_places t good cs th resource (room_for t good cs th resource fits), refl)
 
   -- cs was free: th holds it, and no number changes
-  pub free_done : Sized waiting holders currents → at lengths cs ≡ 0 →
+  pub free_done : length holders ≡ 16 → at lengths cs ≡ 0 →
       DoneWith t (P th cs) (set queue (cs * 32 + at lengths cs) th) (set lengths cs (at lengths cs + 1)) (set holders cs th) waiting currents 0
   unfolding changed count request_count first_or_32
   free_done size z =
-      let e : at t.length cs ≡ 0 = omega (arith, length_is) in record {
+      let e : at t.rows.length cs ≡ 0 = omega (arith, length_is) in record {
         queue_is = joined.0;
         lengths_are = joined.1;
         tracks = record {
           waits_right = λ x h. waits_still x h (inr (none e));
-          holders_right = holders_now size.holders_size th (rw e);
+          holders_right = holders_now size th (rw e);
           currents_right = worths_tracked after after_good currents (all_worth after after_good (at currents) (λ y l. others_lawful y l (none e y))) dead_still;
         };
         counted = rw e;
       }
     where
-      none : at t.length cs ≡ 0 → (v : ℕ) → ¬ Holds t v cs
+      none : at t.rows.length cs ≡ 0 → (v : ℕ) → ¬ Holds t v cs
       none e v o = absurd (omega (arith, ((holds_first t good.shape good.bare.queues_right.lengths v cs).0 o).0))
 
   -- cs was taken: th waits for it, and the walk begins at its holder
@@ -143,8 +143,8 @@ module _ {t : Table} {th cs : ℕ} {queue lengths holders waiting owns currents 
 
     held : Holds t h cs
     held =
-        let n : at t.length cs ≢ 0 = λ z. taken (length_is ∙ z) in
-        rw (k.known.tracks.holders_right cs resource ∙ holder_first t good cs n) ((holds_first t good.shape good.bare.queues_right.lengths (entry t.queue cs 0) cs).1 (omega (arith, n), refl))
+        let n : at t.rows.length cs ≢ 0 = λ z. taken (length_is ∙ z) in
+        rw (k.known.tracks.holders_right cs resource ∙ holder_first t good cs n) ((holds_first t good.shape good.bare.queues_right.lengths (entry t.rows.queue cs 0) cs).1 (omega (arith, n), refl))
 
     holder_alive : h ∈ live after
     holder_alive = frame.live_after t k.known k.early cs q resource fits h (good.bare.queues_right.live_entries cs h held.0)
@@ -173,12 +173,12 @@ module _ {t : Table} {th cs : ℕ} {queue lengths holders waiting owns currents 
     few = sixteen after after_good.order (resource_low after after_good) (thread_low after after_good) h
 
     -- so from there on numbers rise to th's
-    pub start_rises : (n : ℕ) × (n ≤ 17) × Rising (changed t (P th cs)).queue (changed t (P th cs)).length holders (set waiting th cs) owns (at currents th) currents h n
+    pub start_rises : (n : ℕ) × (n ≤ 17) × Rising (changed t (P th cs)).rows.queue (changed t (P th cs)).rows.length holders (set waiting th cs) owns (at currents th) currents h n
     unfolding changed
     start_rises = (suc (after_good.order.forest.ends h).0, omega (arith, few), rising walks (at currents th) (after_good.order.forest.ends h).1 currents size.currents_size stands holder_next)
 
     -- after the walk all numbers are right, and it counts what the definition counts
-    pub taken_done : {e : List ℕ} {n : ℕ} → Climbed (changed t (P th cs)).queue (changed t (P th cs)).length holders (set waiting th cs) owns currents h n e →
+    pub taken_done : {e : List ℕ} {n : ℕ} → Climbed (changed t (P th cs)).rows.queue (changed t (P th cs)).rows.length holders (set waiting th cs) owns currents h n e →
         DoneWith t (P th cs) (set queue (cs * 32 + at lengths cs) th) (set lengths cs (at lengths cs + 1)) holders (set waiting th cs) e n
     unfolding changed count
     taken_done {e} {n} c =

@@ -1,4 +1,5 @@
 -- The terminal's calls are calls of the lock table: the same tables, and the same events. Assumes nothing.
+use Rattle.std.specs.Prelude.{Option, Some, None}
 use Prim.Native.Nat.{ℕ, zero, suc, ◌≤◌, ◌<◌}
 use mathlib.Core.Path.{◌≡◌, refl, sym, ap, subst, ◌∙◌}
 use mathlib.Core.Bool.{Bool, true, false, cond}
@@ -6,7 +7,7 @@ use mathlib.Core.Logic.{◌≢◌}
 use mathlib.Core.List.{List, [], ◌∷◌}
 use native.Mathlib.Omega.{arith}
 use lib.Dec.{leb}
-use Rattle.protocol.specs.Events.{Event, Create, State}
+use Rattle.protocol.specs.Events.{Event, Create, State, Priority}
 use Rattle.table.specs.declared.Table.{Table}
 use Rattle.table.specs.Table.{at}
 use Rattle.table.specs.Compute.{all_below, is_sound}
@@ -17,8 +18,6 @@ use Rattle.locks.specs.Answers.{refused, answer_of}
 use Rattle.terminal.specs.Tasks.{priorities, is_spare, creation}
 use Rattle.terminal.specs.Start.{created_to}
 use Rattle.terminal.specs.Spare.{default, priority_of, addition, spare_answer}
-use Rattle.terminal.specs.declared.spare.Wanted.{Wanted}
-use Rattle.terminal.specs.declared.spare.Wanted.TheVariants.{At, Unsaid}
 use Rattle.terminal.proofs.Started.{accepted_to}
 use Rattle.terminal.proofs.Spared.{as_create, as_turned_away}
 use Rattle.demands.specs.Memory.{AnyTable, AnyRecord}
@@ -48,11 +47,11 @@ bytes_to : (n : ℕ) → n < 16 → AnyCalls (calls_to n)
 bytes_to zero h = (creation_bytes 0 _ (omega arith) (priority_byte 0 h), tt)
 bytes_to (suc n) h = (creation_bytes (suc n) _ (omega arith) (priority_byte (suc n) h), bytes_to n (omega arith))
 
-pub addition_bytes : (id : ℕ) (w : Wanted) → id ≤ 255 → AnyWanted w → AnyRecord (addition id w)
-addition_bytes id Unsaid h p = creation_bytes id default h (omega arith)
-addition_bytes id (At priority) h p = creation_bytes id priority h p
+pub addition_bytes : (id : ℕ) (w : Option Priority) → id ≤ 255 → AnyWanted w → AnyRecord (addition id w)
+addition_bytes id None h p = creation_bytes id default h (omega arith)
+addition_bytes id (Some priority) h p = creation_bytes id priority h p
 
-one_more : (ks : List Call) → AnyCalls ks → (id : ℕ) (w : Wanted) → id ≤ 255 → AnyWanted w → AnyCalls (as_call (add id w) ∷ ks)
+one_more : (ks : List Call) → AnyCalls ks → (id : ℕ) (w : Option Priority) → id ≤ 255 → AnyWanted w → AnyCalls (as_call (add id w) ∷ ks)
 one_more ks any id w h p = go (is_spare id) refl
   where
     go : (b : Bool) → is_spare id ≡ b → AnyCalls (as_call (add id w) ∷ ks)
@@ -69,7 +68,7 @@ module _ (c : Calls) (is : AsStated c) where
   step_is : (u : Table) (e : Record) → AnyTable u → AnyRecord e → c.step u e ≡ left_of (answer_of u e)
   step_is u e a b = left_is (c.step u e) (is.step u e a b)
 
-  module _ (k : Terminal) (told : AsTold k) (u : Table) (memory : AnyTable u) (id : ℕ) (w : Wanted) (h : id ≤ 255) (p : AnyWanted w) where
+  module _ (k : Terminal) (told : AsTold k) (u : Table) (memory : AnyTable u) (id : ℕ) (w : Option Priority) (h : id ≤ 255) (p : AnyWanted w) where
     -- what adding a spare task leaves: the same as the step with its Create,
     pub adds_is : adds k u id w ≡ left_of (spare_answer u id w)
     adds_is = left_is (adds k u id w) (told.spare u id w memory h p)
@@ -115,7 +114,7 @@ module _ (c : Calls) (is : AsStated c) where
 
     module _ (k : Terminal) (told : AsTold k) where
       -- A spare task is added after calls ks, to the table u that they left.
-      module _ (ks : List Call) (any : AnyCalls ks) (u : Table) (left : u ≡ table_after c t ks) (id : ℕ) (w : Wanted) (h : id ≤ 255) (p : AnyWanted w) where
+      module _ (ks : List Call) (any : AnyCalls ks) (u : Table) (left : u ≡ table_after c t ks) (id : ℕ) (w : Option Priority) (h : id ≤ 255) (p : AnyWanted w) where
         memory : AnyTable u
         memory = subst AnyTable (sym left) (memory_after ks any)
 

@@ -1,4 +1,5 @@
 -- What specs/Calls says of the terminal's calls is what their contracts say: each asks nothing, and lets its caller learn just this; and what they are given is what specs/Calls takes. Assumes nothing.
+use Rattle.std.specs.Prelude.{Some, None}
 use Prim.Native.Nat.{ℕ}
 use mathlib.Core.Path.{◌≡◌, refl}
 use mathlib.Core.List.{[], ◌∷◌}
@@ -17,7 +18,6 @@ use denote.Triple.Clauses.{at_exit}
 use Rattle.table.specs.declared.Table.{Table}
 use Rattle.table.specs.contracts.Table as table
 use Rattle.locks.specs.declared.Answer.{Answer}
-use Rattle.terminal.specs.declared.spare.Wanted.TheVariants.{At, Unsaid}
 use Rattle.locktable.specs.contracts.tasks.terminal_start as start
 use Rattle.locktable.specs.contracts.tasks.terminal_spare as spare
 use Rattle.locktable.specs.contracts.tasks.terminal_spare_at as spare_at
@@ -29,11 +29,11 @@ module _ {M : Type 1} {𝓤 : Ura M} (𝓛 : Logic 𝓤) (at_mem : Memory → SP
   pub start_says : Says 𝓛 at_mem run (start.clauses 𝓛 at_mem run (κ, tt) (t, tt)) tt r (at_exit start.ended (κ, tt) (t, tt) (u, tt)) (StartSays (record { answer = r; table = u }))
   start_says = (refl, refl)
 
-  pub spare_says : (id : ℕ) → Says 𝓛 at_mem run (spare.clauses 𝓛 at_mem run (κ, tt) (t, (id, tt))) tt r (at_exit spare.ended (κ, tt) (t, (id, tt)) (u, (tt, tt))) (SpareSays t.now id Unsaid (record { answer = r; table = u }))
+  pub spare_says : (id : ℕ) → Says 𝓛 at_mem run (spare.clauses 𝓛 at_mem run (κ, tt) (t, (id, tt))) tt r (at_exit spare.ended (κ, tt) (t, (id, tt)) (u, (tt, tt))) (SpareSays t.now id None (record { answer = r; table = u }))
   spare_says id = (refl, refl)
 
   pub spare_at_says : (id priority : ℕ) → Says 𝓛 at_mem run (spare_at.clauses 𝓛 at_mem run (κ, tt) (t, (id, (priority, tt)))) tt r (at_exit spare_at.ended (κ, tt) (t, (id, (priority, tt))) (u, (tt, (tt, tt))))
-      (SpareSays t.now id (At priority) (record { answer = r; table = u }))
+      (SpareSays t.now id (Some priority) (record { answer = r; table = u }))
   spare_at_says id priority = (refl, refl)
 
 -- The types of what they are given: a borrow of a table, κ long, and besides bytes.

@@ -1,11 +1,12 @@
--- Demand 1 of the terminal's calls: specs/Fixed has the statement. Assumes nothing.
+-- What the terminal's calls leave on any table: specs/Fixed has the statement. Assumes nothing.
+use Rattle.std.specs.Prelude.{Option}
 use Prim.Native.Nat.{ℕ, suc, ◌≤◌, ◌<◌}
 use mathlib.Core.Path.{◌≡◌, refl, sym, ap, subst, ◌∙◌}
 use mathlib.Core.Bool.{Bool, true, false, cond}
 use mathlib.Core.Logic.{◌⊎◌, inl, inr, ⊎_elim}
 use native.Mathlib.Omega.{arith}
 use Rattle.protocol.specs.Sets.{◌∈◌}
-use Rattle.protocol.specs.Events.{Thread}
+use Rattle.protocol.specs.Events.{Thread, Priority}
 use Rattle.table.specs.declared.Table.{Table}
 use Rattle.table.specs.Table.{slot, live}
 use Rattle.table.specs.Slots.{fresh_slot}
@@ -25,7 +26,6 @@ use Rattle.locks.specs.declared.Answer.{Answer}
 use Rattle.locks.specs.Answers.{accepted, refused, carried_out, answer_of}
 use Rattle.terminal.specs.Tasks.{is_spare}
 use Rattle.terminal.specs.Spare.{priority_of, addition, spare_answer}
-use Rattle.terminal.specs.declared.spare.Wanted.{Wanted}
 use Rattle.terminal.proofs.Started.{started_is}
 use Rattle.terminal.proofs.Spared.{as_create, as_turned_away}
 use Rattle.demands.specs.Memory.{AnyTable}
@@ -45,7 +45,7 @@ use Rattle.shipment.proofs.AsCalls.{addition_bytes}
 pub tells_spare : (id : Thread) → Tells (is_spare id) ((16 ≤ id) × (id ≤ 31))
 tells_spare id = tells_both (tells_le 16 id) (tells_le id 31)
 
-module _ (t : Table) (id : Thread) (w : Wanted) where
+module _ (t : Table) (id : Thread) (w : Option Priority) where
   -- of Create's own refusals only 5 and 6 can apply to a spare task on a sound table
   only_5_and_6 : Sound t → id ≤ 31 → (n : ℕ) → Applies t (addition id w) n → ((n ≡ 5) × (t.clock ≡ 65535)) ⊎ ((n ≡ 6) × (id ∈ live t))
   only_5_and_6 s h n (not_sound u) = absurd (u s)

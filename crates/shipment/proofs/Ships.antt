@@ -1,4 +1,5 @@
--- Demand 2 with the terminal's calls: specs/Ships has the statement. Assumes nothing.
+-- The terminal's calls are calls of the lock table: specs/Ships has the statement. Assumes nothing.
+use Rattle.std.specs.Prelude.{Option}
 use Prim.Native.Nat.{ℕ, ◌≤◌, ◌<◌}
 use mathlib.Core.Path.{◌≡◌, refl, sym, ap, subst, ◌∙◌}
 use mathlib.Core.Logic.{◌↔◌, by_cases}
@@ -7,13 +8,12 @@ use native.Mathlib.Decide.{dec_lt}
 use native.Mathlib.Omega.{arith}
 use lib.ListN.{length}
 use Rattle.protocol.specs.Sets.{◌∈◌, Names}
-use Rattle.protocol.specs.Events.{Event, Create, State, threads}
+use Rattle.protocol.specs.Events.{Event, Create, State, threads, Priority}
 use Rattle.table.specs.declared.Table.{Table}
 use Rattle.table.specs.Table as table
 use Rattle.table.specs.Sound.{Sound}
 use Rattle.locks.specs.declared.Answer.{Answer}
 use Rattle.terminal.specs.Spare.{priority_of}
-use Rattle.terminal.specs.declared.spare.Wanted.{Wanted}
 use Rattle.demands.specs.Memory.{AnyTable}
 use Rattle.demands.specs.Calls.{Left, Calls}
 use Rattle.demands.specs.Runs.{event, ask, table_after}
@@ -34,7 +34,7 @@ use Rattle.shipment.proofs.Fixed.{demand_1_since}
 
 module _ (c : Calls) (is : AsStated c) (k : Terminal) (told : AsTold k) (t : Table) (held : AnyTable t) where
   module _ (acts : List Act) (any : AnyActs acts) {s : State} (past : Shipped c k t acts s) where
-    -- what demand 2 says of the calls that the acts are
+    -- what is so after the calls that the acts are
     pub after_acts : After c t (calls_of acts) s
     after_acts = after (demand_2 c is) held (bytes_of acts any) (as_history c is t held k told acts any past)
 
@@ -50,7 +50,7 @@ module _ (c : Calls) (is : AsStated c) (k : Terminal) (told : AsTold k) (t : Tab
     sound_since : Sound u
     sound_since = subst Sound (sym (same_table c is t held k told acts any)) after_acts.sound
 
-    module _ (id : ℕ) (w : Wanted) (h : id ≤ 255) (p : AnyWanted w) where
+    module _ (id : ℕ) (w : Option Priority) (h : id ≤ 255) (p : AnyWanted w) where
       fixed_here : SpareFixed u id w (adds k u id w)
       fixed_here = (demand_1_since k told).spare u id w memory_since h p
 

@@ -1,4 +1,5 @@
 -- The theorems as they are used, for any kernel: what they suppose is handed over one by one as the words have it, and no more; and each thing that they say is taken. Assumes nothing.
+use Rattle.std.specs.Prelude.{Option}
 use Prim.Native.Nat.{ℕ, ◌*◌, ◌≤◌, ◌<◌}
 use mathlib.Core.Path.{◌≡◌, sym, ◌∙◌}
 use mathlib.Core.Logic.{◌≢◌}
@@ -6,13 +7,12 @@ use mathlib.Core.List.{List, ◌∷◌, ◌++◌}
 use native.Mathlib.Omega.{arith}
 use lib.ListN.{length}
 use Rattle.protocol.specs.Sets.{◌∈◌, set, Names, Number}
-use Rattle.protocol.specs.Events.{Thread, Event, Create, State, threads, priority, last_set, Higher}
+use Rattle.protocol.specs.Events.{Thread, Event, Create, State, threads, priority, last_set, Higher, Priority}
 use Rattle.protocol.specs.Schedule.{Cprec, running}
 use Rattle.protocol.specs.Demand3.{Moment, HoldsOrWaits, Spares, calls, calls_of_others, others, Until}
 use Rattle.table.specs.declared.Table.{Table}
 use Rattle.table.specs.Table.{own, stored}
 use Rattle.terminal.specs.Spare.{priority_of}
-use Rattle.terminal.specs.declared.spare.Wanted.{Wanted}
 use Rattle.demands.specs.Memory.{AnyTable}
 use Rattle.demands.specs.Calls.{Calls}
 use Rattle.demands.specs.Runs.{table_after}
@@ -31,18 +31,18 @@ module _ (c : Calls) (k : Terminal) (d : Demand2Since c k) (t : Table) (memory :
   pub events_one : (s s' : State) → Shipped c k t acts s → Shipped c k t acts s' → s ≡ s'
   events_one s s' h h' = let x = (d t memory acts bytes).1 in x.only s h ∙ sym (x.only s' h')
 
-  -- what demand 2 says of calls it says of the acts
+  -- what is so after any calls of the lock table is so after the acts
   pub shows_acts : After c t (calls_of acts) events_of.0 × (table_since c k t acts ≡ table_after c t (calls_of acts))
   unfolding events_of
   shows_acts = let w = d t memory acts bytes in (w.1.after, w.1.table_is)
 
   -- a spare task with an id of its own, that isn't live, is added while there are events left, and the state says so
-  pub is_added : (id : ℕ) (w : Wanted) → AnyWanted w → 16 ≤ id → id ≤ 31 → ¬ (id ∈ threads events_of.0) → length events_of.0 < 65535 → Shipped c k t (add id w ∷ acts) (Create id (priority_of w) ∷ events_of.0)
+  pub is_added : (id : ℕ) (w : Option Priority) → AnyWanted w → 16 ≤ id → id ≤ 31 → ¬ (id ∈ threads events_of.0) → length events_of.0 < 65535 → Shipped c k t (add id w ∷ acts) (Create id (priority_of w) ∷ events_of.0)
   unfolding events_of
   is_added id w p low high dead early = let x = (d t memory acts bytes).1 in added x.shipped ((x.admits id w (omega arith) p).1 (low, high, dead, early))
 
   -- and the answer names who runs then
-  pub added_names : (id : ℕ) (w : Wanted) → id ≤ 255 → AnyWanted w → (s : State) → Shipped c k t (add id w ∷ acts) s → Names 32 (running s) (adds k (table_since c k t acts) id w).answer.running
+  pub added_names : (id : ℕ) (w : Option Priority) → id ≤ 255 → AnyWanted w → (s : State) → Shipped c k t (add id w ∷ acts) s → Names 32 (running s) (adds k (table_since c k t acts) id w).answer.running
   added_names = (d t memory acts bytes).1.answer_names
 
 -- before any later event a task's precedence, own and current, is above that of the task after it

@@ -1,5 +1,6 @@
 -- The draw task's theorem on an example, to be worked out on paper. A shipment is started; the draw ends, and task 1 takes the register, resource 0. Then the draw comes back: that is the moment. It
 -- requests the register and waits, and a spare task comes with 240, above task 1's own 200. The premises are met, and task 1 runs at the end, at the draw's precedence. Assumes nothing.
+use Rattle.std.specs.Prelude.{Some}
 use Prim.Native.Nat.{ℕ, zero, suc, ◌≤◌}
 use mathlib.Core.Path.{◌≡◌, refl, ap, subst, ◌∙◌}
 use mathlib.Core.Logic.{inl, inr}
@@ -19,7 +20,6 @@ use Rattle.events.specs.Events.{tabulate, settled, with_slot, with_queue, change
 use Rattle.events.specs.Count.{walk, request_count, release_count, count}
 use Rattle.queries.specs.Queries.{running_refusals, running_answer}
 use Rattle.locks.specs.Answers.{accepted as done, refused as turned_away, carried_out, answer_of}
-use Rattle.terminal.specs.declared.spare.Wanted.TheVariants.{At}
 use Rattle.demands.specs.Memory.{AnyTable, AnyRecord}
 use Rattle.demands.specs.Runs.{event, table_after, create, exit, request}
 use Rattle.demands.proofs.InMemory.{right_any}
@@ -48,7 +48,7 @@ s = Create 0 250 ∷ (P 1 0 ∷ (Exit 0 ∷ fixed_tasks))
 
 -- Since then: the draw requests the register, and spare task 16 is added at 240.
 abbrev pub acts' : List Act
-acts' = add 16 (At 240) ∷ (call (event (of 4 0 0)) ∷ [])
+acts' = add 16 (Some 240) ∷ (call (event (of 4 0 0)) ∷ [])
 
 abbrev pub s' : List Event
 s' = Create 16 240 ∷ (P 0 0 ∷ [])

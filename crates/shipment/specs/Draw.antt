@@ -1,4 +1,4 @@
--- The draw task's theorem: demand 3 of task 0 in a started shipment. Take a moment of the shipment at which the draw is live at 250 and every other live task's own priority is below 250. Suppose that
+-- The draw task's theorem: what is proved of any highest thread, of task 0 in a started shipment. Take a moment of the shipment at which the draw is live at 250 and every other live task's own priority is below 250. Suppose that
 -- afterwards nobody sets or ends task 0, and no task is created with or set to a priority above 250. Then any other task that runs was live at that moment, has held or waited for a resource ever since,
 -- and runs at exactly the draw's precedence. So nobody who came later, and no task that held and waited for nothing, runs ahead of the draw. Assumes nothing.
 use Rattle.std.specs.Prelude.{ℕ, ◌*◌, ◌≤◌, ◌<◌, ◌≡◌, ◌≢◌, List, ◌++◌}

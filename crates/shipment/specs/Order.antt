@@ -1,4 +1,4 @@
--- Document 02, K3: "Prove that before any later event each fixed task's precedence is above that of all fixed tasks after it." Assumes nothing.
+-- "Before any later event each fixed task's precedence is above that of all fixed tasks after it." Assumes nothing.
 use Rattle.std.specs.Prelude.{◌<◌, List}
 use Rattle.protocol.specs.Events.{Thread, State, Precedence, prec, Higher}
 use Rattle.protocol.specs.Schedule.{Cprec}

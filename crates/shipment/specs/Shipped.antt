@@ -1,10 +1,9 @@
 -- A kernel that starts its shipments with `terminal_start`: the calls that it makes from then on, and the accepted events as the paper writes them. Assumes nothing.
-use Rattle.std.specs.Prelude.{ℕ, ◌≤◌, ◌≡◌, ◌≢◌, List, [], ◌∷◌}
-use Rattle.protocol.specs.Events.{Event, Create, State}
+use Rattle.std.specs.Prelude.{ℕ, ◌≤◌, ◌≡◌, ◌≢◌, List, [], ◌∷◌, Option}
+use Rattle.protocol.specs.Events.{Event, Create, State, Priority}
 use Rattle.table.specs.declared.Table.{Table}
 use Rattle.refusals.specs.declared.Record.{Record}
 use Rattle.terminal.specs.Spare.{priority_of}
-use Rattle.terminal.specs.declared.spare.Wanted.{Wanted}
 use Rattle.demands.specs.Calls.{Calls}
 use Rattle.demands.specs.Runs.{Query, running, thread, resource, Call, event, ask, AnyCall, Writes}
 use Rattle.shipment.specs.Calls.{Terminal, adds, AnyWanted}
@@ -12,7 +11,7 @@ use Rattle.shipment.specs.Calls.{Terminal, adds, AnyWanted}
 -- what a kernel calls after `terminal_start`: the step or a query, as any kernel does, or the call that adds a spare task
 pub data Act : Type 0 where
   call : Call → Act
-  add : ℕ → Wanted → Act
+  add : ℕ → Option Priority → Act
 
 -- its arguments are bytes
 abbrev pub AnyAct : Act → Type 0
@@ -47,5 +46,5 @@ pub data Shipped (c : Calls) (k : Terminal) (t : Table) : List Act → State →
   accepted : {acts : List Act} {s : State} {e : Record} {ev : Event} → Shipped c k t acts s → (c.step (table_since c k t acts) e).answer.number ≡ 0 → Writes s e ev → Shipped c k t (call (event e) ∷ acts) (ev ∷ s)
   refused : {acts : List Act} {s : State} {e : Record} → Shipped c k t acts s → (c.step (table_since c k t acts) e).answer.number ≢ 0 → Shipped c k t (call (event e) ∷ acts) s
   asked : {acts : List Act} {s : State} {q : Query} → Shipped c k t acts s → Shipped c k t (call (ask q) ∷ acts) s
-  added : {acts : List Act} {s : State} {id : ℕ} {w : Wanted} → Shipped c k t acts s → (adds k (table_since c k t acts) id w).answer.number ≡ 0 → Shipped c k t (add id w ∷ acts) (Create id (priority_of w) ∷ s)
-  turned_away : {acts : List Act} {s : State} {id : ℕ} {w : Wanted} → Shipped c k t acts s → (adds k (table_since c k t acts) id w).answer.number ≢ 0 → Shipped c k t (add id w ∷ acts) s
+  added : {acts : List Act} {s : State} {id : ℕ} {w : Option Priority} → Shipped c k t acts s → (adds k (table_since c k t acts) id w).answer.number ≡ 0 → Shipped c k t (add id w ∷ acts) (Create id (priority_of w) ∷ s)
+  turned_away : {acts : List Act} {s : State} {id : ℕ} {w : Option Priority} → Shipped c k t acts s → (adds k (table_since c k t acts) id w).answer.number ≢ 0 → Shipped c k t (add id w ∷ acts) s

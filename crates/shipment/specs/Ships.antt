@@ -1,13 +1,12 @@
--- Demand 2 with the terminal's calls: they are calls of the lock table, and what demand 2 says of those it says of them. Assumes nothing.
-use Rattle.std.specs.Prelude.{ℕ, zero, suc, ◌≤◌, ◌<◌, ◌≡◌, ◌↔◌, cond, List, [], ◌∷◌, ◌++◌, map, length}
+-- The terminal's calls are calls of the lock table, so what is proved of any run of those holds of a run with these. Assumes nothing.
+use Rattle.std.specs.Prelude.{ℕ, zero, suc, ◌≤◌, ◌<◌, ◌≡◌, ◌↔◌, cond, List, [], ◌∷◌, ◌++◌, map, length, Option}
 use Rattle.protocol.specs.Sets.{◌∈◌, Names}
-use Rattle.protocol.specs.Events.{State, threads}
+use Rattle.protocol.specs.Events.{State, threads, Priority}
 use Rattle.protocol.specs.Schedule.{running}
 use Rattle.table.specs.declared.Table.{Table}
 use Rattle.table.specs.Table.{at}
 use Rattle.terminal.specs.Tasks.{priorities, is_spare, creation}
 use Rattle.terminal.specs.Spare.{addition}
-use Rattle.terminal.specs.declared.spare.Wanted.{Wanted}
 use Rattle.demands.specs.Memory.{AnyTable}
 use Rattle.demands.specs.Calls.{Calls}
 use Rattle.demands.specs.Runs as runs
@@ -35,13 +34,13 @@ pub record Ships (c : Calls) (k : Terminal) (t : Table) (acts : List Act) (s : S
   -- s is the accepted events, and nothing else is
   pub shipped : Shipped c k t acts s
   pub only : (s' : State) → Shipped c k t acts s' → s' ≡ s
-  -- the table is that of the calls of the lock table, of which demand 2 tells
+  -- the table is that of the calls of the lock table, and what is so after those is so
   pub table_is : table_since c k t acts ≡ table_after c t (calls_of acts)
   pub after : After c t (calls_of acts) s
   -- a spare task is added exactly if its id is one of 16 to 31 and isn't live, and fewer than 65,535 events were accepted
-  pub admits : (id : ℕ) (w : Wanted) → id ≤ 255 → AnyWanted w → ((adds k (table_since c k t acts) id w).answer.number ≡ 0) ↔ ((16 ≤ id) × (id ≤ 31) × (¬ (id ∈ threads s)) × (length s < 65535))
+  pub admits : (id : ℕ) (w : Option Priority) → id ≤ 255 → AnyWanted w → ((adds k (table_since c k t acts) id w).answer.number ≡ 0) ↔ ((16 ≤ id) × (id ≤ 31) × (¬ (id ∈ threads s)) × (length s < 65535))
   -- and the answer names the running thread of the state afterwards
-  pub answer_names : (id : ℕ) (w : Wanted) → id ≤ 255 → AnyWanted w → (s' : State) → Shipped c k t (add id w ∷ acts) s' → Names 32 (running s') (adds k (table_since c k t acts) id w).answer.running
+  pub answer_names : (id : ℕ) (w : Option Priority) → id ≤ 255 → AnyWanted w → (s' : State) → Shipped c k t (add id w ∷ acts) s' → Names 32 (running s') (adds k (table_since c k t acts) id w).answer.running
 
 -- for any acts, from the start on, whatever the kernel's table held before
 abbrev pub Demand2Since : Calls → Terminal → Type 0

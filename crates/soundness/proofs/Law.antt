@@ -29,7 +29,7 @@ pub record Numbered (t : Table) (owns currents : List ℕ) : Type 0 where
 
 -- the current number of th is the highest that the law compares
 abbrev pub LawfulAt : Table → List ℕ → List ℕ → List ℕ → ℕ → Type 0
-LawfulAt t holders owns currents th = Max ◌≤◌ (Compared t.queue t.length holders currents 16 (at owns th) th) (at currents th)
+LawfulAt t holders owns currents th = Max ◌≤◌ (Compared t.rows.queue t.rows.length holders currents 16 (at owns th) th) (at currents th)
 
 -- what the law compares at th, in precedences
 abbrev Among : Table → ℕ → SetOf Precedence

@@ -33,7 +33,7 @@ use Rattle.soundness.proofs.Law.{Numbered, LawfulAt, law_numbers, dead_law}
 pub record Passed (t : Table) : Type 0 where
   pub slots : SlotsRight t.clock t.live t.priority t.time t.current_priority t.current_time t.requests
   pub times : TimesDiffer t.live t.time
-  pub rows : RowsRight t.queue t.length t.live 16
+  pub rows : RowsRight t.rows.queue t.rows.length t.live 16
   pub ends : (th : ℕ) → th < 32 → Ends (children (queues t)) th
   pub totals : (th : ℕ) → th < 32 → StandingTotal t th
 

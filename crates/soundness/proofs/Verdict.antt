@@ -50,8 +50,8 @@ module _ (t : Table) (shape : Shape t) (own now_stored : List ℕ) (c : Checked)
       go (no n) = slot_dead (at t.live th) (at t.current_priority th) (at t.current_time th) n ∙ sym (if_dead t th (rank 65535 (current t th)) n)
 
   -- the last part decides
-  pub decides : t.clock < 65536 → Passed t → {standing : List ℕ} → Surveyed t.queue t.length 16 c.waits c.holders standing →
-      (v : List ℕ) → ((th : ℕ) → th < 32 → Max ◌≤◌ (Compared t.queue t.length c.holders now_stored 16 (at own th) th) (at v th)) →
+  pub decides : t.clock < 65536 → Passed t → {standing : List ℕ} → Surveyed t.rows.queue t.rows.length 16 c.waits c.holders standing →
+      (v : List ℕ) → ((th : ℕ) → th < 32 → Max ◌≤◌ (Compared t.rows.queue t.rows.length c.holders now_stored 16 (at own th) th) (at v th)) →
       (c.sound ≡ true) ↔ ((th : ℕ) → th < 32 → at v th ≡ at now_stored th) → CheckedRight t own now_stored c
   decides clock p surveyed v worth same = record {
     shape = shape;

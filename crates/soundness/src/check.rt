@@ -7,8 +7,9 @@ ghost use Rattle.queues.specs.Queues.{RowsRight, Surveyed};
 ghost use Rattle.slots.specs.Slots.{AllAddUp};
 ghost use Rattle.soundness.specs.Checked.{CheckedRight};
 
-use chains::law::{law_values, same};
-use chains::ways::no_circle;
+use chains::law::same;
+use chains::old_law::law_values;
+use chains::old_ways::no_circle;
 use queues::survey::survey;
 use slots::right::slots_right;
 use slots::times::times_differ;
@@ -119,8 +120,8 @@ pub fn sound(t: Table) -> bool
         &t.time,
         &t.current_priority,
         &t.current_time,
-        &t.queue,
-        &t.length,
+        &t.rows.queue,
+        &t.rows.length,
         &t.requests,
         &t.releases,
         &own,

@@ -1,4 +1,4 @@
--- Document 01's definitions on a table once more, and document 02's of the totals, as tests and values that compute. Assumes nothing.
+-- What is defined on a table, its totals' balance too, once more as tests and values that compute. Assumes nothing.
 use Rattle.std.specs.Prelude.{ℕ, zero, suc, ◌+◌, ◌*◌, Bool, true, false, cond, not, ◌&&◌, ◌||◌, List, [], ◌∷◌, eqb, ltb, leb}
 use Rattle.protocol.specs.Events.{Thread, Resource, Precedence}
 use Rattle.table.specs.declared.Table.{Table}
@@ -107,7 +107,7 @@ dead_zero t th = is_live t th || (eqb (at t.live th) 0 && (same (own t th) (0, 0
 
 -- the queue places of cs beyond its length are zero
 unfoldable pub spare_zero : Table → Resource → Bool
-spare_zero t cs = all_below 32 (λ i. ltb i (at t.length cs) || eqb (at t.queue (cs * 32 + i)) 0)
+spare_zero t cs = all_below 32 (λ i. ltb i (at t.rows.length cs) || eqb (at t.rows.queue (cs * 32 + i)) 0)
 
 -- a live thread's set time is below the clock, and no other live thread has it
 unfoldable pub time_right : Table → Thread → Bool
@@ -116,7 +116,7 @@ time_right t th =
 
 -- the length of the queue of cs is at most 32, its entries are live and differ
 unfoldable pub queue_right : Table → Resource → Bool
-queue_right t cs = leb (at t.length cs) 32 && (each (is_live t) (queues t cs) && differ (queues t cs))
+queue_right t cs = leb (at t.rows.length cs) 32 && (each (is_live t) (queues t cs) && differ (queues t cs))
 
 -- those who wait for cs wait for nothing else
 unfoldable pub waits_once : Table → Resource → Bool

@@ -1,6 +1,7 @@
--- The slots that an event leaves. Assumes nothing.
-use Rattle.std.specs.Prelude.{ℕ, ◌+◌}
-use Rattle.protocol.specs.Events.{Priority}
+-- The slots that an event leaves, and the table with such a slot. Assumes nothing.
+use Rattle.std.specs.Prelude.{ℕ, ◌+◌, set}
+use Rattle.protocol.specs.Events.{Thread, Priority}
+use Rattle.table.specs.declared.Table.{Table}
 use Rattle.table.specs.declared.Slot.{Slot}
 
 -- the slot of a thread that is created: live, with this priority, set at this time; its totals count from here
@@ -18,3 +19,17 @@ requested_slot s = record { live = s.live; priority = s.priority; time = s.time;
 -- the slot of a thread that releases: one release more
 abbrev pub released_slot : Slot → Slot
 released_slot s = record { live = s.live; priority = s.priority; time = s.time; requests = s.requests; releases = s.releases + 1 }
+
+-- th has the slot s
+unfoldable pub with_slot : Table → Thread → Slot → Table
+with_slot t th s = record {
+  clock = t.clock;
+  live = set t.live th s.live;
+  priority = set t.priority th s.priority;
+  time = set t.time th s.time;
+  current_priority = t.current_priority;
+  current_time = t.current_time;
+  rows = record { queue = t.rows.queue; length = t.rows.length };
+  requests = set t.requests th s.requests;
+  releases = set t.releases th s.releases;
+}

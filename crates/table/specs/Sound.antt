@@ -1,4 +1,4 @@
--- Document 01: a table is sound when these rules hold, in its order; document 02's K2 adds two. Assumes nothing.
+-- When a table is sound: rules for its fields, its queues, its totals and its stored current precedences. Assumes nothing.
 use Rattle.std.specs.Prelude.{ℕ, ◌+◌, ◌*◌, ◌≤◌, ◌<◌, ◌≡◌}
 use Rattle.protocol.specs.Sets.{◌∈◌, set, Distinct}
 use Rattle.protocol.specs.Events.{Thread, Resource}
@@ -15,18 +15,18 @@ pub record TimesRight (t : Table) : Type 0 where
 
 -- queue lengths are at most 32, entries are live and differ within a queue
 pub record QueuesRight (t : Table) : Type 0 where
-  pub lengths : (cs : Resource) → at t.length cs ≤ 32
+  pub lengths : (cs : Resource) → at t.rows.length cs ≤ 32
   pub live_entries : (cs : Resource) (th : Thread) → th ∈ set (queues t cs) → th ∈ live t
   pub differ : (cs : Resource) → Distinct (queues t cs)
 
--- document 02, K2: "requests equal releases plus resources held, plus 1 if the thread waits. That balance, and that no total is above the clock, join the rules of a sound table"
+-- requests equal releases plus resources held, plus 1 if the thread waits, and no total is above the clock
 pub record TotalsRight (t : Table) : Type 0 where
   -- of each live thread
   pub balance : (th : Thread) → th ∈ live t → Balanced (queues t) th (at t.requests th) (at t.releases th)
   -- of every slot
   pub low : (th : Thread) → (at t.requests th ≤ t.clock) × (at t.releases th ≤ t.clock)
 
--- document 01's rules, in their order, but for what they say of the stored current precedences
+-- the rules that say nothing of the totals and of the stored current precedences
 pub record Bare (t : Table) : Type 0 where
   -- the clock is in range
   pub clock : t.clock ≤ 65535
@@ -35,7 +35,7 @@ pub record Bare (t : Table) : Type 0 where
   -- dead slots are zero
   pub dead_slots : (th : Thread) → ¬ (th ∈ live t) → slot t th ≡ dead_slot
   -- queue places beyond a length are zero
-  pub spare_places : (cs : Resource) (i : ℕ) → cs < 16 → at t.length cs ≤ i → i < 32 → at t.queue (cs * 32 + i) ≡ 0
+  pub spare_places : (cs : Resource) (i : ℕ) → cs < 16 → at t.rows.length cs ≤ i → i < 32 → at t.rows.queue (cs * 32 + i) ≡ 0
   -- live threads have set times below the clock, all different
   pub times : TimesRight t
   -- queue lengths are at most 32, entries are live and differ within a queue

@@ -1,4 +1,4 @@
--- Document 01's table: what each field means, and document 000's definitions read off it. Assumes nothing.
+-- The table: what each field means, and who holds, waits, is ready and runs, read off it. Assumes nothing.
 use Rattle.std.specs.Prelude.{ℕ, ◌*◌, ◌≡◌, List, get_or, take, drop, replicate}
 use Rattle.protocol.specs.Sets.{SetOf, ◌∈◌, Highest}
 use Rattle.protocol.specs.Events.{Thread, Resource, Precedence, ◌≼◌}
@@ -19,8 +19,7 @@ empty = record {
   time = replicate 32 0;
   current_priority = replicate 32 0;
   current_time = replicate 32 0;
-  queue = replicate 512 0;
-  length = replicate 16 0;
+  rows = record { queue = replicate 512 0; length = replicate 16 0 };
   requests = replicate 32 0;
   releases = replicate 32 0;
 }
@@ -47,7 +46,7 @@ stored t th = (at t.current_priority th, at t.current_time th)
 
 -- the queue of a resource: as many places from the first of its 32 on as its length says; a length above 32, which a sound table does not have, would run into the next queue's
 abbrev pub queues : Table → Queues
-queues t cs = take (at t.length cs) (drop (cs * 32) t.queue)
+queues t cs = take (at t.rows.length cs) (drop (cs * 32) t.rows.queue)
 
 -- the first entry of a queue holds the resource; the others wait
 abbrev pub Holds : Table → Thread → Resource → Type 0

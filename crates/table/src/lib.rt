@@ -4,12 +4,21 @@
 pub mod numbers;
 pub mod queues;
 pub mod running;
+pub mod workings;
 
 ghost use Rattle.std.specs.Prelude.{◌≡◌, ◌<◌};
-ghost use Rattle.table.specs.Slots.{fresh_slot, set_slot, requested_slot, released_slot};
-ghost use Rattle.table.specs.Table.{empty, dead_slot};
+ghost use Rattle.table.specs.Slots.{fresh_slot, set_slot, requested_slot, released_slot, with_slot};
+ghost use Rattle.table.specs.Table.{empty, slot, dead_slot};
 
-// One array a property: an array of numbers is lent without a copy, and loops over it vectorise. `live` is 0 or 1, and any
+// The queues: a row of 32 places for each resource, one row behind the other, and how many of them stand in use.
+#[repr(C)]
+#[derive(Clone, Copy)]
+pub struct Rows {
+    pub queue: [u8; Table::PLACES],
+    pub length: [u8; Table::RESOURCES],
+}
+
+// One array a property, not one struct a thread: the layout for C, and loops over an array of numbers vectorise. `live` is 0 or 1, and any
 // other number makes the table unsound; that the clock is at most 65,535 and a priority at most 255 holds by the types. Later fields stand
 // last, so that those before them stay where they were.
 #[repr(C)]
@@ -21,8 +30,7 @@ pub struct Table {
     pub time: [u16; Table::THREADS],
     pub current_priority: [u8; Table::THREADS],
     pub current_time: [u16; Table::THREADS],
-    pub queue: [u8; Table::PLACES],
-    pub length: [u8; Table::RESOURCES],
+    pub rows: Rows,
     pub requests: [u16; Table::THREADS],
     pub releases: [u16; Table::THREADS],
 }
@@ -53,11 +61,42 @@ impl Table {
             time: [0; Table::THREADS],
             current_priority: [0; Table::THREADS],
             current_time: [0; Table::THREADS],
-            queue: [0; 512],
-            length: [0; Table::RESOURCES],
+            rows: Rows {
+                queue: [0; 512],
+                length: [0; Table::RESOURCES],
+            },
             requests: [0; Table::THREADS],
             releases: [0; Table::THREADS],
         }
+    }
+
+    // The slot of a thread.
+    pub fn slot(&self, thread: u8) -> Slot
+        requires { thread < 32 }
+        ensures { result ≡ slot self.now thread }
+    {
+        let i = usize::from(thread);
+        Slot {
+            live: self.live[i],
+            priority: self.priority[i],
+            time: self.time[i],
+            requests: self.requests[i],
+            releases: self.releases[i],
+        }
+    }
+
+    // The thread has this slot from now on.
+    #[tactic(auto, unfolding(crate::specs::Slots::with_slot))]
+    pub fn set_slot(&mut self, thread: u8, slot: Slot)
+        requires { thread < 32 }
+        ensures { self.new ≡ with_slot self.old thread slot }
+    {
+        let i = usize::from(thread);
+        self.live[i] = slot.live;
+        self.priority[i] = slot.priority;
+        self.time[i] = slot.time;
+        self.requests[i] = slot.requests;
+        self.releases[i] = slot.releases;
     }
 }
 
@@ -89,48 +128,53 @@ impl Slot {
     pub fn fresh(priority: u8, time: u16) -> Slot
         ensures { result ≡ fresh_slot priority time }
     {
-        Slot::of(1, priority, time, 0, 0)
+        Slot {
+            live: 1,
+            priority,
+            time,
+            ..Slot::dead()
+        }
     }
 
     // Zero everywhere.
     pub fn dead() -> Slot
         ensures { result ≡ dead_slot }
     {
-        Slot::of(0, 0, 0, 0, 0)
+        Slot {
+            live: 0,
+            priority: 0,
+            time: 0,
+            requests: 0,
+            releases: 0,
+        }
     }
 
     // A new own priority, set at this time; the rest stays.
     pub fn anew(self, priority: u8, time: u16) -> Slot
         ensures { result ≡ set_slot self priority time }
     {
-        Slot::of(self.live, priority, time, self.requests, self.releases)
+        Slot {
+            priority,
+            time,
+            ..self
+        }
     }
 
     // One request more.
-    pub fn requested(self) -> Slot
+    pub fn requested(mut self) -> Slot
         requires { self.requests < 65535 }
         ensures { result ≡ requested_slot self }
     {
-        Slot::of(
-            self.live,
-            self.priority,
-            self.time,
-            self.requests + 1,
-            self.releases,
-        )
+        self.requests += 1;
+        self
     }
 
     // One release more.
-    pub fn released(self) -> Slot
+    pub fn released(mut self) -> Slot
         requires { self.releases < 65535 }
         ensures { result ≡ released_slot self }
     {
-        Slot::of(
-            self.live,
-            self.priority,
-            self.time,
-            self.requests,
-            self.releases + 1,
-        )
+        self.releases += 1;
+        self
     }
 }

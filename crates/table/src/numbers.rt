@@ -9,7 +9,7 @@ use crate::Table;
 pub fn number(priority: u8, time: u16) -> u32
     ensures { result ≡ rank 65535 (priority, time) }
 {
-    (priority as u32) * (Table::EVENTS as u32 + 1) + (Table::EVENTS as u32 - time as u32)
+    u32::from(priority) * (u32::from(Table::EVENTS) + 1) + u32::from(Table::EVENTS - time)
 }
 
 // The number of a slot, 0 if it isn't live. That a priority and a time fit their types is said for those who read arrays.
@@ -26,23 +26,32 @@ pub fn numbers<'a>(
 ) -> [u32; Table::THREADS]
     ensures { NumbersOf live.now priority.now time.now result }
 {
-    let mut all = [0u32; Table::THREADS];
-    let mut i = 0;
-    while i < Table::THREADS {
+    let mut all = [0; Table::THREADS];
+    for i in 0..Table::THREADS {
         all[i] = slot_number(live[i], priority[i], time[i]);
-        i += 1;
     }
     all
 }
 
-// The number of thread x; 0 if there is no such thread. A slice tells the proof its length, an array behind a reference doesn't.
+impl Table {
+    // The numbers of the threads' own precedences.
+    pub fn own_numbers(&self) -> [u32; Table::THREADS]
+        ensures { NumbersOf self.now.live self.now.priority self.now.time result }
+    {
+        numbers(&self.live, &self.priority, &self.time)
+    }
+
+    // The numbers of their current precedences, as they are stored.
+    pub fn current_numbers(&self) -> [u32; Table::THREADS]
+        ensures { NumbersOf self.now.live self.now.current_priority self.now.current_time result }
+    {
+        numbers(&self.live, &self.current_priority, &self.current_time)
+    }
+}
+
+// The number of thread x; 0 if there is no such thread.
 pub fn value(all: &[u32; Table::THREADS], x: u8) -> u32
     ensures { result ≡ at all.now x }
 {
-    let numbers: &[u32] = all;
-    let i = x as usize;
-    if numbers.len() <= i {
-        return 0;
-    }
-    numbers[i]
+    all.get(usize::from(x)).copied().unwrap_or(0)
 }

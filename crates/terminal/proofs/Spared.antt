@@ -3,7 +3,8 @@ use mathlib.Core.Path.{◌≡◌, refl, ◌∙◌}
 use mathlib.Core.Bool.{Bool, true, false, cond}
 use Prim.Native.Nat.{ℕ}
 use lib.Dec.{eqb}
-use Rattle.protocol.specs.Events.{Thread}
+use Rattle.std.specs.Prelude.{Option}
+use Rattle.protocol.specs.Events.{Thread, Priority}
 use Rattle.table.specs.declared.Table.{Table}
 use Rattle.table.specs.Compute.{is_sound}
 use Rattle.refusals.specs.declared.Record.{Record}
@@ -13,7 +14,6 @@ use Rattle.locks.specs.declared.Done.{Done}
 use Rattle.locks.specs.Answers.{refused, carried_out, answer_of}
 use Rattle.terminal.specs.Tasks.{is_spare}
 use Rattle.terminal.specs.Spare.{addition, spare_refusals, spare_answer}
-use Rattle.terminal.specs.declared.spare.Wanted.{Wanted}
 
 -- one and the same test twice
 twice : (b : Bool) (d r : Done) → cond b (cond b d r) r ≡ cond b d r
@@ -44,7 +44,7 @@ module _ (t : Table) where
       go true e = rw (m, q ∙ no_kind_is, e) refl
       go false e = rw (m, q ∙ no_kind_is, e) refl
 
-  module _ (id : Thread) (w : Wanted) where
+  module _ (id : Thread) (w : Option Priority) where
     -- with a spare task's id 17 does not apply, so the first refusal is the Create's
     same_number : is_spare id ≡ true → lowest (spare_refusals t id w) ≡ lowest (refusals t (addition id w))
     unfolding spare_refusals lowest refusals

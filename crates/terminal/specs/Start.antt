@@ -1,4 +1,4 @@
--- Document 02, K3: "Starting a shipment creates them in order on the empty table". Assumes nothing.
+-- "Starting a shipment creates them in order on the empty table". Assumes nothing.
 use Rattle.std.specs.Prelude.{ℕ, zero, suc, List, [], ◌∷◌, ◌++◌, replicate}
 use Rattle.protocol.specs.Events.{Thread}
 use Rattle.table.specs.declared.Table.{Table}
@@ -29,8 +29,7 @@ first_table = record {
   time = times ++ replicate 16 0;
   current_priority = priorities ++ replicate 16 0;
   current_time = times ++ replicate 16 0;
-  queue = replicate 512 0;
-  length = replicate 16 0;
+  rows = record { queue = replicate 512 0; length = replicate 16 0 };
   requests = replicate 32 0;
   releases = replicate 32 0;
 }

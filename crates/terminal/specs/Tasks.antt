@@ -1,4 +1,4 @@
--- Document 02, K3: the terminal's tasks. Assumes nothing.
+-- The terminal's tasks. Assumes nothing.
 use Rattle.std.specs.Prelude.{Bool, ◌&&◌, List, [], ◌∷◌, leb}
 use Rattle.protocol.specs.Events.{Thread, Priority}
 use Rattle.refusals.specs.declared.Record.{Record}

@@ -8,16 +8,11 @@ pub mod start;
 ghost use Rattle.std.specs.Prelude.{◌≡◌};
 ghost use Rattle.terminal.specs.Tasks.{creation};
 
-use locks::Record;
+use refusals::{Kind, Record};
 
 // The record of the event that creates a task.
 fn creation(id: u8, priority: u8) -> Record
     ensures { result ≡ creation id priority }
 {
-    Record {
-        kind: Record::CREATE,
-        thread: id,
-        argument: priority,
-        zero: 0,
-    }
+    Record::new(Kind::Create, id, priority)
 }

@@ -26,7 +26,7 @@ use Rattle.events.proofs.Frame.Slot.{set_tracked, dead_tracked}
 module _ (t : Table) {queue lengths holders waits owns currents : List ℕ} (size : length currents ≡ 32) where
   -- where th stands in no queue nobody is compared
   alone : {ev : Event} → Begun t ev queue lengths holders waits owns currents → (th : ℕ) → th < 32 → ((cs : ℕ) → ¬ (th ∈ members (queues t cs))) → (own : ℕ) →
-      Max ◌≤◌ (Compared t.queue t.length holders currents 16 own th) own
+      Max ◌≤◌ (Compared t.rows.queue t.rows.length holders currents 16 own th) own
   alone b th low out own = record {
     among = inl refl;
     bound = λ a. ⊎_elim {C = a ≤ own} (λ e. omega (arith, e)) (λ (r, i, h, from, to, holds, v). absurd (out r (holder_holds t (known_good t b.known) th r low (sym (b.known.tracks.holders_right r h) ∙ holds)).0));

@@ -1,6 +1,6 @@
 -- The highest of the numbers that the local law compares, as more of them are compared. Assumes nothing.
 use Prim.Native.Nat.{ℕ, ◌+◌, ◌≤◌, ◌<◌}
-use mathlib.Core.Path.{◌≡◌, refl}
+use mathlib.Core.Path.{◌≡◌}
 use mathlib.Core.Logic.{◌⊎◌, inl, inr, ⊎_elim, by_cases}
 use mathlib.Core.List.{List}
 use native.Mathlib.Decide.{ℕ_discrete, dec_lt}
@@ -40,9 +40,6 @@ module _ (queue current : List ℕ) (r start n : ℕ) where
 module _ (queue lengths holders current : List ℕ) (own t : ℕ) where
   abbrev OfFirst : ℕ → SetOf ℕ
   OfFirst k = Compared queue lengths holders current k own t
-
-  pub compared_none : Max ◌≤◌ (OfFirst 0) own
-  compared_none = record { among = inl refl; bound = λ a. ⊎_elim (λ e. omega arith) (λ w. absurd (omega (arith, w.2))) }
 
   -- resources at which nobody waits add nothing
   pub compared_all : {R m : ℕ} → R ≤ 16 → ((r : ℕ) → R ≤ r → r < 16 → at lengths r ≤ 1) → Max ◌≤◌ (OfFirst R) m → Max ◌≤◌ (OfFirst 16) m

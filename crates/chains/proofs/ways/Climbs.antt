@@ -31,12 +31,12 @@ pub record Graphed (t : Table) (w h : List ℕ) : Type 0 where
   pub unheld : (r : ℕ) → r < 16 → ((x : ℕ) → ¬ Holds t x r) → at h r ≡ 32
 
 -- the queue of a resource that nobody holds is empty
-pub unheld_empty : (t : Table) → Shape t → ((r : ℕ) → at t.length r ≤ 32) → (r : ℕ) → ((x : ℕ) → ¬ Holds t x r) → at t.length r ≡ 0
-unheld_empty t shape lengths r none = go (ℕ_discrete (at t.length r) 0)
+pub unheld_empty : (t : Table) → Shape t → ((r : ℕ) → at t.rows.length r ≤ 32) → (r : ℕ) → ((x : ℕ) → ¬ Holds t x r) → at t.rows.length r ≡ 0
+unheld_empty t shape lengths r none = go (ℕ_discrete (at t.rows.length r) 0)
   where
-    go : Dec (at t.length r ≡ 0) → at t.length r ≡ 0
+    go : Dec (at t.rows.length r ≡ 0) → at t.rows.length r ≡ 0
     go (yes z) = z
-    go (no n) = absurd (none (entry t.queue r 0) ((holds_first t shape lengths (entry t.queue r 0) r).1 (omega arith, refl)))
+    go (no n) = absurd (none (entry t.rows.queue r 0) ((holds_first t shape lengths (entry t.rows.queue r 0) r).1 (omega arith, refl)))
 
 module _ (t : Table) (shape : Shape t) (right : QueuesRight t) {w h : List ℕ} (graphed : Graphed t w h) where
   one_queue : OneQueue t
@@ -51,11 +51,11 @@ module _ (t : Table) (shape : Shape t) (right : QueuesRight t) {w h : List ℕ} 
 
   pub graphed_holders : (r : ℕ) → r < 16 → at h r ≡ holder t r
   unfolding holder first_or_32
-  graphed_holders r l = go (ℕ_discrete (at t.length r) 0)
+  graphed_holders r l = go (ℕ_discrete (at t.rows.length r) 0)
     where
-      go : Dec (at t.length r ≡ 0) → at h r ≡ holder t r
+      go : Dec (at t.rows.length r ≡ 0) → at h r ≡ holder t r
       go (yes z) = graphed.unheld r l (λ x o. omega (arith, ((holds_first t shape right.lengths x r).0 o).0)) ∙ rw z
-      go (no n) = let o = (holds_first t shape right.lengths (entry t.queue r 0) r).1 (omega arith, refl) in graphed.held (entry t.queue r 0) r o ∙ sym (holds_holder t (entry t.queue r 0) r o)
+      go (no n) = let o = (holds_first t shape right.lengths (entry t.rows.queue r 0) r).1 (omega arith, refl) in graphed.held (entry t.rows.queue r 0) r o ∙ sym (holds_holder t (entry t.rows.queue r 0) r o)
 
   named_waits : (x : ℕ) → x < 32 → at w x < 16 → Waits t x (at w x)
   named_waits x l k = ⊎_elim {C = Waits t x (at w x)} (λ c. rw (graphed_waits x l) c.1) (λ c. absurd (omega (arith, c.0, graphed_waits x l))) (waits_for_cases t one_queue low x)

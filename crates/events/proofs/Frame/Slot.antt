@@ -68,7 +68,7 @@ module _ (t : Table) {waiting holders owns currents : List ℕ} (k : Known t wai
   }
 
   -- th is live and waits for nothing: it is worked out alone
-  pub set_tracked : (v : ℕ) → length currents ≡ 32 → n.live ≡ 1 → ((r : ℕ) → ¬ Waits t th r) → Max ◌≤◌ (Compared t.queue t.length holders currents 16 (rank 65535 (n.priority, n.time)) th) v →
+  pub set_tracked : (v : ℕ) → length currents ≡ 32 → n.live ≡ 1 → ((r : ℕ) → ¬ Waits t th r) → Max ◌≤◌ (Compared t.rows.queue t.rows.length holders currents 16 (rank 65535 (n.priority, n.time)) th) v →
       Tracks after waiting holders (set currents th v)
   unfolding with_slot
   set_tracked v s l idle max = tracked v s (λ d. absurd (d l)) (walk_ends after after_good (at currents) (at currents) (at (set currents th v)) th

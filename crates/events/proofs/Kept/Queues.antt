@@ -87,7 +87,7 @@ queue_bare t cs q {requests} {releases} s b low f = record {
   ways_end = every_way (queues (with_queue (with_totals t requests releases) cs q)) forest.ends;
 }
   where
-    lengths : (r : ℕ) → at t.length r ≤ 32
+    lengths : (r : ℕ) → at t.rows.length r ≤ 32
     lengths = b.queues_right.lengths
 
     short : length q ≤ 32
@@ -99,7 +99,7 @@ queue_bare t cs q {requests} {releases} s b low f = record {
     forest : Forest (queues (with_queue (with_totals t requests releases) cs q))
     forest = subst Forest (sym is) f.forest
 
-    new_length : (r : ℕ) → Dec (r ≡ cs) → at (put t.length cs (length q)) r ≤ 32
+    new_length : (r : ℕ) → Dec (r ≡ cs) → at (put t.rows.length cs (length q)) r ≤ 32
     new_length r (yes e) = rw e (omega (arith, length_there t cs q s low short, short))
     new_length r (no n) = omega (arith, length_else t cs q s low short r n, lengths r)
 

@@ -62,8 +62,8 @@ queue_shape t cs q s low short = record {
   time_size = s.time_size;
   current_priority_size = s.current_priority_size;
   current_time_size = s.current_time_size;
-  queue_size = row_length t.queue (cs * 32) q (omega (arith, s.queue_size)) short ∙ s.queue_size;
-  length_size = length-set t.length cs (length q) ∙ s.length_size;
+  queue_size = row_length t.rows.queue (cs * 32) q (omega (arith, s.queue_size)) short ∙ s.queue_size;
+  length_size = length-set t.rows.length cs (length q) ∙ s.length_size;
   requests_size = s.requests_size;
   releases_size = s.releases_size;
 }

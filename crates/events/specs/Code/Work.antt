@@ -12,13 +12,13 @@ pub record Begun (t : Table) (ev : Event) (queue lengths holders waits owns curr
   pub known : Known t waits holders owns currents
   pub early : t.clock < 65535
   pub permitted : Permits t ev
-  pub queue_is : queue ≡ t.queue
-  pub lengths_are : lengths ≡ t.length
+  pub queue_is : queue ≡ t.rows.queue
+  pub lengths_are : lengths ≡ t.rows.length
 
 -- The event is done: the arrays are those of the table afterwards, and n threads were worked out afresh.
 pub record DoneWith (t : Table) (ev : Event) (queue lengths holders waits currents : List ℕ) (n : ℕ) : Type 0 where
-  pub queue_is : queue ≡ (changed t ev).queue
-  pub lengths_are : lengths ≡ (changed t ev).length
+  pub queue_is : queue ≡ (changed t ev).rows.queue
+  pub lengths_are : lengths ≡ (changed t ev).rows.length
   pub tracks : Tracks (changed t ev) waits holders currents
   pub counted : n ≡ count t ev
 
@@ -31,8 +31,7 @@ with_current t cp ct = record {
   time = t.time;
   current_priority = cp;
   current_time = ct;
-  queue = t.queue;
-  length = t.length;
+  rows = record { queue = t.rows.queue; length = t.rows.length };
   requests = t.requests;
   releases = t.releases;
 }

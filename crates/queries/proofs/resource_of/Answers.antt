@@ -33,5 +33,5 @@ returns c =
     let k = c.check-c.ensures (typed_shape _ c.well_formed.0) c.numbers-of_own.ensures c.numbers-current.ensures in
     let known = k.known c.if-not-c.false in
     let h : a.resource < 16 = omega (arith, c.wide-r.ensures.0) in
-    let n : c.waiting.result ≡ at a.t.length a.resource - 1 = rw c.wide-r.ensures.0 at c.waiting.ensures in
+    let n : c.waiting.result ≡ at a.t.rows.length a.resource - 1 = rw c.wide-r.ensures.0 at c.waiting.ensures in
     rw (c.wide-r.ensures.0, sym (sound_is a.t k) ∙ c.if-not-c.false, le-ltb 15 a.resource (omega arith), known.tracks.holders_right a.resource h, n ∙ sym (waiters_are a.t (known_good a.t known) a.resource h))

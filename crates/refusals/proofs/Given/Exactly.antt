@@ -1,4 +1,4 @@
--- The number of a refusal is given exactly when document 01 says. Assumes nothing.
+-- The lowest number of the tests is the lowest that applies. Assumes nothing.
 use Prim.Native.Nat.{ℕ, ◌≤◌, ◌<◌}
 use mathlib.Core.Path.{◌≡◌, refl, sym, ◌∙◌}
 use mathlib.Core.Bool.{Bool, true, false, not}
@@ -122,7 +122,7 @@ module _ (t : Table) (e : Record) where
     rest_cases = lowest_cases (Applies t e) (by_thread t e ++ by_queues t e) 4 (refl, (refl, (refl, (refl, (refl, (refl, (refl, tt)))))))
         (tested_both (Applies t e) (by_thread t e) (by_queues t e) thread_tests queue_tests)
 
-  -- the number is the one that document 01 gives
+  -- the number of the tests is the one that is given
   pub exactly : Shape t → Given t e (lowest (refusals t e))
   unfolding lowest unsound refusals
   exactly s = go (is_sound t) refl (record_cases e)

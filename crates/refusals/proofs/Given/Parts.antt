@@ -1,20 +1,21 @@
 -- How the lowest number goes through the refusals on a sound table: first those by the record, then those by the clock and the thread,
 -- then those by the queues. Assumes nothing.
-use mathlib.Core.Path.{◌≡◌, refl, sym, ◌∙◌}
-use mathlib.Core.Bool.{Bool, true, false, not, ◌&&◌, false≢true}
+use mathlib.Core.Path.{◌≡◌, refl, ◌∙◌}
+use mathlib.Core.Bool.{true}
 use mathlib.Core.List.{◌++◌}
 use mathlib.Core.Logic.{◌≢◌}
+use native.Mathlib.Omega.{arith}
 use Rattle.table.specs.declared.Table.{Table}
 use Rattle.table.specs.Compute.{is_sound}
 use Rattle.refusals.specs.declared.Record.{Record}
+use Rattle.refusals.specs.declared.reasons.Reason.{Reason}
+use Rattle.refusals.specs.Numbers.{reason_number}
 use Rattle.refusals.specs.Refusals.{lowest, unsound, by_record, by_thread, by_queues, refusals}
 use Rattle.refusals.proofs.Given.Lowest.{Numbered, passes, of_first, of_second}
 
--- past 7 the thread is live, so that 8 need not ask again
-pub past_7 : (create live runs : Bool) → (not create && not live) ≡ false → (not create && (live && not runs)) ≡ (not create && not runs)
-past_7 true live runs f = refl
-past_7 false true runs f = refl
-past_7 false false runs f = absurd (false≢true (sym f))
+-- no reason has the number 0
+pub above_0 : (reason : Reason) → reason_number reason ≢ 0
+above_0 reason = grind arith
 
 -- the parts follow each other: 2 to 4, then 5 to 8
 pub record_numbered : (e : Record) → Numbered 1 (by_record e)

@@ -15,7 +15,7 @@ use Rattle.table.proofs.Arrays.Places.{part_in, part_hd, part_distinct}
 
 -- the places behind a resource's first that name x
 abbrev pub Behind : Table → ℕ → ℕ → Type 0
-Behind t r x = (i : ℕ) × (1 ≤ i) × (i < at t.length r) × (entry t.queue r i ≡ x)
+Behind t r x = (i : ℕ) × (1 ≤ i) × (i < at t.rows.length r) × (entry t.rows.queue r i ≡ x)
 
 -- no thread waits in two queues
 abbrev pub OneQueue : Table → Type 0
@@ -27,34 +27,34 @@ module _ (t : Table) (shape : Shape t) where
   live_low x l = omega (arith, within t.live x (omega arith), shape.live_size)
 
   -- only the sixteen resources have a queue
-  pub taken_low : (r i : ℕ) → i < at t.length r → r < 16
-  taken_low r i h = omega (arith, within t.length r (omega arith), shape.length_size)
+  pub taken_low : (r i : ℕ) → i < at t.rows.length r → r < 16
+  taken_low r i h = omega (arith, within t.rows.length r (omega arith), shape.length_size)
 
-  module _ (lengths : (r : ℕ) → at t.length r ≤ 32) where
-    fits : (r : ℕ) → (at t.length r ≡ 0) ⊎ (r * 32 + at t.length r ≤ length t.queue)
+  module _ (lengths : (r : ℕ) → at t.rows.length r ≤ 32) where
+    fits : (r : ℕ) → (at t.rows.length r ≡ 0) ⊎ (r * 32 + at t.rows.length r ≤ length t.rows.queue)
     fits r = go (dec_lt r 16)
       where
-        go : Dec (r < 16) → (at t.length r ≡ 0) ⊎ (r * 32 + at t.length r ≤ length t.queue)
+        go : Dec (r < 16) → (at t.rows.length r ≡ 0) ⊎ (r * 32 + at t.rows.length r ≤ length t.rows.queue)
         go (yes l) = inr (omega (arith, lengths r, shape.queue_size))
-        go (no n) = inl (beyond t.length r (omega arith))
+        go (no n) = inl (beyond t.rows.length r (omega arith))
 
-    pub in_queue : (r x : ℕ) → (x ∈ set (queues t r)) ↔ ((i : ℕ) × (i < at t.length r) × (entry t.queue r i ≡ x))
-    in_queue r x = part_in t.queue (r * 32) (at t.length r) (fits r) x
+    pub in_queue : (r x : ℕ) → (x ∈ set (queues t r)) ↔ ((i : ℕ) × (i < at t.rows.length r) × (entry t.rows.queue r i ≡ x))
+    in_queue r x = part_in t.rows.queue (r * 32) (at t.rows.length r) (fits r) x
 
-    pub hd_queue : (r x : ℕ) → (x ∈ hd (queues t r)) ↔ ((0 < at t.length r) × (entry t.queue r 0 ≡ x))
-    hd_queue r x = part_hd t.queue (r * 32) (at t.length r) (fits r) x
+    pub hd_queue : (r x : ℕ) → (x ∈ hd (queues t r)) ↔ ((0 < at t.rows.length r) × (entry t.rows.queue r 0 ≡ x))
+    hd_queue r x = part_hd t.rows.queue (r * 32) (at t.rows.length r) (fits r) x
 
-    pub distinct_queue : (r : ℕ) → Distinct (queues t r) ↔ ((i j : ℕ) → i < j → j < at t.length r → entry t.queue r i ≢ entry t.queue r j)
-    distinct_queue r = part_distinct t.queue (r * 32) (at t.length r) (fits r)
+    pub distinct_queue : (r : ℕ) → Distinct (queues t r) ↔ ((i j : ℕ) → i < j → j < at t.rows.length r → entry t.rows.queue r i ≢ entry t.rows.queue r j)
+    distinct_queue r = part_distinct t.rows.queue (r * 32) (at t.rows.length r) (fits r)
 
-    pub holds_first : (x r : ℕ) → Holds t x r ↔ ((0 < at t.length r) × (entry t.queue r 0 ≡ x))
+    pub holds_first : (x r : ℕ) → Holds t x r ↔ ((0 < at t.rows.length r) × (entry t.rows.queue r 0 ≡ x))
     holds_first x r = ((λ h. (hd_queue r x).0 h.1), λ w. ((in_queue r x).1 (0, w.0, w.1), (hd_queue r x).1 w))
 
     -- to wait is to stand behind the first place
     pub waits_behind : (x r : ℕ) → Waits t x r → Behind t r x
     waits_behind x r (h, n) = let w = (in_queue r x).0 h in go w (ℕ_discrete w.0 0)
       where
-        go : (w : (i : ℕ) × (i < at t.length r) × (entry t.queue r i ≡ x)) → Dec (w.0 ≡ 0) → Behind t r x
+        go : (w : (i : ℕ) × (i < at t.rows.length r) × (entry t.rows.queue r i ≡ x)) → Dec (w.0 ≡ 0) → Behind t r x
         go (i, l, e) (yes z) = absurd (n ((hd_queue r x).1 (omega arith, (rw z at e))))
         go (i, l, e) (no nz) = (i, omega arith, l, e)
 

@@ -1,4 +1,4 @@
--- What document 01's definitions compute of a table that keeps the rules, read off its fields. Assumes nothing.
+-- What is defined on a table that keeps the rules, read off its fields. Assumes nothing.
 use Prim.Native.Nat.{ℕ, ◌*◌, ◌<◌}
 use mathlib.Core.Path.{◌≡◌, refl, sym, ◌∙◌}
 use mathlib.Core.Bool.{Bool, true, false, cond}
@@ -41,23 +41,23 @@ sound_good t shape s = bare_good t shape s.bare
 
 module _ (t : Table) (g : Good t) where
   -- a queue is as long as its length says
-  pub queue_length : (cs : Resource) → cs < 16 → length (queues t cs) ≡ at t.length cs
-  queue_length cs h = part_length t.queue (cs * 32) (at t.length cs) (inr (omega (arith, g.shape.queue_size, g.bare.queues_right.lengths cs)))
+  pub queue_length : (cs : Resource) → cs < 16 → length (queues t cs) ≡ at t.rows.length cs
+  queue_length cs h = part_length t.rows.queue (cs * 32) (at t.rows.length cs) (inr (omega (arith, g.shape.queue_size, g.bare.queues_right.lengths cs)))
 
   -- `holder` names the one that stands first in a queue,
-  pub holder_first : (cs : Resource) → at t.length cs ≢ 0 → holder t cs ≡ entry t.queue cs 0
-  holder_first cs n = holds_holder t (entry t.queue cs 0) cs ((holds_first t g.shape g.bare.queues_right.lengths (entry t.queue cs 0) cs).1 (omega arith, refl))
+  pub holder_first : (cs : Resource) → at t.rows.length cs ≢ 0 → holder t cs ≡ entry t.rows.queue cs 0
+  holder_first cs n = holds_holder t (entry t.rows.queue cs 0) cs ((holds_first t g.shape g.bare.queues_right.lengths (entry t.rows.queue cs 0) cs).1 (omega arith, refl))
 
   -- and nobody where the queue is empty
-  pub holder_free : (cs : Resource) → at t.length cs ≡ 0 → holder t cs ≡ 32
+  pub holder_free : (cs : Resource) → at t.rows.length cs ≡ 0 → holder t cs ≡ 32
   unfolding holder first_or_32
   holder_free cs z = rw z
 
   -- a number below 32 that it names holds
   pub holder_holds : (x : Thread) (cs : Resource) → x < 32 → holder t cs ≡ x → Holds t x cs
-  holder_holds x cs low e = go (ℕ_discrete (at t.length cs) 0)
+  holder_holds x cs low e = go (ℕ_discrete (at t.rows.length cs) 0)
     where
-      go : Dec (at t.length cs ≡ 0) → Holds t x cs
+      go : Dec (at t.rows.length cs ≡ 0) → Holds t x cs
       go (yes z) = absurd (omega (arith, holder_free cs z))
       go (no n) = (holds_first t g.shape g.bare.queues_right.lengths x cs).1 (omega arith, sym (holder_first cs n) ∙ e)
 

@@ -1,4 +1,4 @@
--- What computes over a table is what document 01 defines, in a table that is in good order. Assumes nothing.
+-- What computes over a table is what is defined on it, in a table that is in good order. Assumes nothing.
 use Prim.Native.Nat.{ℕ, zero, suc, ◌≤◌, ◌<◌}
 use mathlib.Core.Path.{◌≡◌, refl, sym, ap, subst, ◌∙◌}
 use mathlib.Core.Bool.{Bool, true, false, cond, ◌&&◌, ◌||◌, false≢true}

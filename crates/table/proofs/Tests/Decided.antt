@@ -32,9 +32,9 @@ pub record Rules (t : Table) : Type 0 where
   pub clock : t.clock ≤ 65535
   pub priorities : (th : ℕ) → th < 32 → at t.priority th ≤ 255
   pub dead : (th : ℕ) → th < 32 → ¬ (th ∈ live t) → (at t.live th ≡ 0) × ((own t th ≡ (0, 0)) × ((at t.requests th ≡ 0) × ((at t.releases th ≡ 0) × (stored t th ≡ (0, 0)))))
-  pub spare : (cs : ℕ) → cs < 16 → (i : ℕ) → i < 32 → ¬ (i < at t.length cs) → at t.queue (cs * 32 + i) ≡ 0
+  pub spare : (cs : ℕ) → cs < 16 → (i : ℕ) → i < 32 → ¬ (i < at t.rows.length cs) → at t.rows.queue (cs * 32 + i) ≡ 0
   pub times : (th : ℕ) → th < 32 → th ∈ live t → (at t.time th < t.clock) × ((u : ℕ) → u < 32 → (u ∈ live t) × (at t.time th ≡ at t.time u) → th ≡ u)
-  pub right : (cs : ℕ) → cs < 16 → (at t.length cs ≤ 32) × (((th : ℕ) → th ∈ set (queues t cs) → th ∈ live t) × Distinct (queues t cs))
+  pub right : (cs : ℕ) → cs < 16 → (at t.rows.length cs ≤ 32) × (((th : ℕ) → th ∈ set (queues t cs) → th ∈ live t) × Distinct (queues t cs))
   pub once : (cs : ℕ) → cs < 16 → (th : ℕ) → th ∈ set (queues t cs) → Waits t th cs → waits_for t th ≡ cs
   pub ways : (th : ℕ) → th < 32 → ends 33 t th ≡ true
   pub balances : (th : ℕ) → th < 32 → th ∈ live t → at t.requests th ≡ at t.releases th + unreleased t th
@@ -46,17 +46,17 @@ module _ (t : Table) where
   unfolding dead_zero
   tells_dead th = tells_unless (tells_live t th) (tells_both (tells_eq (at t.live th) 0) (tells_both (tells_same (own t th) (0, 0)) (tells_both (tells_eq (at t.requests th) 0) (tells_both (tells_eq (at t.releases th) 0) (tells_same (stored t th) (0, 0))))))
 
-  tells_spare : (cs : ℕ) → Tells (spare_zero t cs) ((i : ℕ) → i < 32 → ¬ (i < at t.length cs) → at t.queue (cs * 32 + i) ≡ 0)
+  tells_spare : (cs : ℕ) → Tells (spare_zero t cs) ((i : ℕ) → i < 32 → ¬ (i < at t.rows.length cs) → at t.rows.queue (cs * 32 + i) ≡ 0)
   unfolding spare_zero
-  tells_spare cs = tells_below 32 _ _ (λ i h. tells_unless (tells_lt i (at t.length cs)) (tells_eq (at t.queue (cs * 32 + i)) 0))
+  tells_spare cs = tells_below 32 _ _ (λ i h. tells_unless (tells_lt i (at t.rows.length cs)) (tells_eq (at t.rows.queue (cs * 32 + i)) 0))
 
   tells_times : (th : ℕ) → Tells (time_right t th) (th ∈ live t → (at t.time th < t.clock) × ((u : ℕ) → u < 32 → (u ∈ live t) × (at t.time th ≡ at t.time u) → th ≡ u))
   unfolding time_right
   tells_times th = tells_where (tells_live t th) (tells_both (tells_lt (at t.time th) t.clock) (tells_below 32 _ _ (λ u h. tells_where (tells_both (tells_live t u) (tells_eq (at t.time th) (at t.time u))) (tells_eq th u))))
 
-  tells_queue : (cs : ℕ) → Tells (queue_right t cs) ((at t.length cs ≤ 32) × (((th : ℕ) → th ∈ set (queues t cs) → th ∈ live t) × Distinct (queues t cs)))
+  tells_queue : (cs : ℕ) → Tells (queue_right t cs) ((at t.rows.length cs ≤ 32) × (((th : ℕ) → th ∈ set (queues t cs) → th ∈ live t) × Distinct (queues t cs)))
   unfolding queue_right
-  tells_queue cs = tells_both (tells_le (at t.length cs) 32) (tells_both (tells_each (is_live t) _ (tells_live t) (queues t cs)) (tells_differ (queues t cs)))
+  tells_queue cs = tells_both (tells_le (at t.rows.length cs) 32) (tells_both (tells_each (is_live t) _ (tells_live t) (queues t cs)) (tells_differ (queues t cs)))
 
   tells_once : (cs : ℕ) → Tells (waits_once t cs) ((th : ℕ) → th ∈ set (queues t cs) → Waits t th cs → waits_for t th ≡ cs)
   unfolding waits_once
@@ -80,9 +80,9 @@ module _ (t : Table) where
       let all = tells_both (tells_le t.clock 65535)
       (tells_both (tells_below 32 (λ th. leb (at t.priority th) 255) (λ th. at t.priority th ≤ 255) (λ th h. tells_le (at t.priority th) 255))
       (tells_both (tells_below 32 (dead_zero t) (λ th. ¬ (th ∈ live t) → (at t.live th ≡ 0) × ((own t th ≡ (0, 0)) × ((at t.requests th ≡ 0) × ((at t.releases th ≡ 0) × (stored t th ≡ (0, 0)))))) (λ th h. tells_dead th))
-      (tells_both (tells_below 16 (spare_zero t) (λ cs. (i : ℕ) → i < 32 → ¬ (i < at t.length cs) → at t.queue (cs * 32 + i) ≡ 0) (λ cs h. tells_spare cs))
+      (tells_both (tells_below 16 (spare_zero t) (λ cs. (i : ℕ) → i < 32 → ¬ (i < at t.rows.length cs) → at t.rows.queue (cs * 32 + i) ≡ 0) (λ cs h. tells_spare cs))
       (tells_both (tells_below 32 (time_right t) (λ th. th ∈ live t → (at t.time th < t.clock) × ((u : ℕ) → u < 32 → (u ∈ live t) × (at t.time th ≡ at t.time u) → th ≡ u)) (λ th h. tells_times th))
-      (tells_both (tells_below 16 (queue_right t) (λ cs. (at t.length cs ≤ 32) × (((th : ℕ) → th ∈ set (queues t cs) → th ∈ live t) × Distinct (queues t cs))) (λ cs h. tells_queue cs))
+      (tells_both (tells_below 16 (queue_right t) (λ cs. (at t.rows.length cs ≤ 32) × (((th : ℕ) → th ∈ set (queues t cs) → th ∈ live t) × Distinct (queues t cs))) (λ cs h. tells_queue cs))
       (tells_both (tells_below 16 (waits_once t) (λ cs. (th : ℕ) → th ∈ set (queues t cs) → Waits t th cs → waits_for t th ≡ cs) (λ cs h. tells_once cs))
       (tells_both (tells_below 32 (ends 33 t) (λ th. ends 33 t th ≡ true) (λ th h. tells_itself (ends 33 t th)))
       (tells_both (tells_below 32 (balance_right t) (λ th. th ∈ live t → at t.requests th ≡ at t.releases th + unreleased t th) (λ th h. tells_balance th))
@@ -158,12 +158,12 @@ module _ (t : Table) (shape : Shape t) where
       dead th n (yes h) = let k = r.dead th h n in (rw (k.0, ap (λ (p : Precedence). p.0) k.1.0, ap (λ (p : Precedence). p.1) k.1.0, k.1.1.0, k.1.1.1.0), k.1.1.1.1)
       dead th n (no h) = zero_beyond t shape th (omega arith)
 
-      lengths : (cs : ℕ) → at t.length cs ≤ 32
+      lengths : (cs : ℕ) → at t.rows.length cs ≤ 32
       lengths cs = go (dec_lt cs 16)
         where
-          go : Dec (cs < 16) → at t.length cs ≤ 32
+          go : Dec (cs < 16) → at t.rows.length cs ≤ 32
           go (yes h) = (r.right cs h).0
-          go (no n) = omega (arith, beyond t.length cs (omega arith))
+          go (no n) = omega (arith, beyond t.rows.length cs (omega arith))
 
       low : (x cs : ℕ) → x ∈ set (queues t cs) → cs < 16
       low x cs i = let w = (in_queue t shape lengths cs x).0 i in taken_low t shape cs w.0 w.1
@@ -173,7 +173,7 @@ module _ (t : Table) (shape : Shape t) where
         where
           differs : (cs : ℕ) → Dec (cs < 16) → Distinct (queues t cs)
           differs cs (yes h) = (r.right cs h).1.1
-          differs cs (no n) = rw (beyond t.length cs (omega arith)) tt
+          differs cs (no n) = rw (beyond t.rows.length cs (omega arith)) tt
 
       one : OneQueue t
       one x p q v w = sym (r.once p (low x p v.0) x v.0 v) ∙ r.once q (low x q w.0) x w.0 w

@@ -1,4 +1,4 @@
--- What computes of the totals' balance is what document 02 says of it. Assumes nothing.
+-- What computes of the totals' balance is what is defined of it. Assumes nothing.
 use Prim.Native.Nat.{ℕ, zero, suc, ◌+◌, ◌<◌}
 use mathlib.Core.Path.{◌≡◌, sym, ◌∙◌}
 use mathlib.Core.List.{List, [], ◌∷◌}

@@ -13,8 +13,7 @@ table_of clock live priority time cp ct queue lengths requests releases = record
   time = time;
   current_priority = cp;
   current_time = ct;
-  queue = queue;
-  length = lengths;
+  rows = record { queue = queue; length = lengths };
   requests = requests;
   releases = releases;
 }
@@ -26,8 +25,8 @@ pub record Shape (t : Table) : Type 0 where
   pub time_size : length t.time ≡ 32
   pub current_priority_size : length t.current_priority ≡ 32
   pub current_time_size : length t.current_time ≡ 32
-  pub queue_size : length t.queue ≡ 512
-  pub length_size : length t.length ≡ 16
+  pub queue_size : length t.rows.queue ≡ 512
+  pub length_size : length t.rows.length ≡ 16
   pub requests_size : length t.requests ≡ 32
   pub releases_size : length t.releases ≡ 32
 

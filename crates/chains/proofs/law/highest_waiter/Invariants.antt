@@ -1,13 +1,8 @@
--- `chains::law::highest_waiter` meets its contract. The loop's invariant: `best` is the highest of `start` and the waiters passed; with
--- nobody waiting i stays at 1. Assumes nothing.
-use Prim.Native.Nat.{◌≤◌, ◌-◌, max}
+-- `chains::law::highest_waiter` meets its contract. The loop's invariant: `best` is the highest of `start` and the waiters passed. Assumes nothing.
+use Prim.Native.Nat.{◌+◌, ◌≤◌}
 use Rattle.protocol.specs.Sets.{only, ◌∪◌, Max}
 use Rattle.chains.specs.Law.{WaitersNumbers}
 use Rattle.chains.proofs.law.highest_waiter.Given as goal
 
-abbrev pub invariant-loop-i : goal.invariant-loop-i
-invariant-loop-i l =
-    (1 ≤ l.i) × (l.i ≤ max 1 l.n) × Max ◌≤◌ (only l.start ∪ WaitersNumbers l.queue l.current l.r l.i) l.best
-
-abbrev pub decreases-loop-i : goal.decreases-loop-i
-decreases-loop-i l = l.n - l.i
+abbrev pub invariant-loop-x : goal.invariant-loop-x
+invariant-loop-x l = Max ◌≤◌ (only l.start ∪ WaitersNumbers l.rows.queue l.w.current l.r (l.x-index + 1)) l.best

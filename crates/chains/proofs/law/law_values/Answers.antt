@@ -13,7 +13,7 @@ use Rattle.table.specs.Table.{at}
 use Rattle.chains.specs.Law.{entries_of, WaitersNumbers}
 use Rattle.chains.proofs.law.Maxima.{few_entries, compared_all, compared_next}
 use Rattle.chains.proofs.law.law_values.Invariants.{Right}
-use Rattle.chains.proofs.law.law_values.Goals.{then-lengths-r-gt1+then-h-lt-THREADS, then-lengths-r-gt1+else-h-lt-THREADS, else-lengths-r-gt1}
+use Rattle.chains.proofs.law.law_values.Goals.{then-n-gt1+then-h-lt-THREADS, else-n-gt1, else-n-gt1-via-then-n-gt1+else-h-lt-THREADS, else-n-gt1-via-else-n-gt1}
 use Rattle.chains.proofs.law.law_values.Goals as goal
 
 module _ (queue lengths holders current own : List ℕ) where
@@ -30,22 +30,26 @@ module _ (queue lengths holders current own : List ℕ) where
 
 pub loop-r-preserved : goal.loop-r-preserved
 loop-r-preserved c =
-    let a = c.args in
+    let rows = c.args.rows.now in
+    let w = c.args.w.now in
     let b = c.loop-r in
-    let raise = raised a.queue.now a.lengths.now a.holders.now a.current.now a.own b.best b.r in
-    let pass = passed a.queue.now a.lengths.now a.holders.now a.current.now a.own b.best b.r in
-    elim c.if-lengths-r-gt1.branch [
-      | then-lengths-r-gt1+then-h-lt-THREADS w ↦
-          (omega arith, rw (w.best-is, length-set) b.invariant.1, rw w.best-is (raise _ _ b.invariant.1 w.if-h-lt-THREADS.true w.wide-h.ensures.0 (rw w.entries.ensures.0 at w.highest_waiter.ensures) b.invariant.2))
-      | then-lengths-r-gt1+else-h-lt-THREADS w ↦
-          (omega arith, rw w.best-is b.invariant.1, rw w.best-is (pass (λ t l e. absurd (omega (arith, w.if-h-lt-THREADS.false, w.wide-h.ensures.0))) b.invariant.2))
-      | else-lengths-r-gt1 w ↦
-          (omega arith, rw w.best-is b.invariant.1, rw w.best-is (pass (λ t l e. few_entries (at a.lengths.now b.r) (omega (arith, w.if-lengths-r-gt1.false))) b.invariant.2))
+    let raise = raised rows.queue rows.length w.graph.holders w.current w.own b.best b.r in
+    let pass = passed rows.queue rows.length w.graph.holders w.current w.own b.best b.r in
+    elim c.if-n-gt1.branch [
+      | then-n-gt1+then-h-lt-THREADS v ↦
+          (rw (v.best-is, length-set) b.invariant.0, rw v.best-is (raise _ _ b.invariant.0 v.if-h-lt-THREADS.true c.from-h.ensures (rw v.entries.ensures.0 at v.highest_waiter.ensures) b.invariant.1))
+      | else-n-gt1 v ↦
+          let none : (t : ℕ) → t < 32 → at w.graph.holders b.r ≡ t → entries_of (at rows.length b.r) ≤ 1 = λ t l e. elim v.else-n-gt1.branch [
+            | else-n-gt1-via-then-n-gt1+else-h-lt-THREADS u ↦ absurd (omega (arith, u.if-h-lt-THREADS.false, c.from-h.ensures))
+            | else-n-gt1-via-else-n-gt1 u ↦ few_entries (at rows.length b.r) (omega (arith, u.if-n-gt1.false))
+          ] in
+          (rw v.best-is b.invariant.0, rw v.best-is (pass none b.invariant.1))
     ]
 
 pub returns : goal.returns
 returns c =
-    let a = c.args in
-    let rows = c.rows_to_compare-rows in
-    let e : c.loop-r.r ≡ rows.result = omega arith in
-    λ t l. compared_all a.queue.now a.lengths.now a.holders.now a.current.now (at a.own t) t rows.ensures.0 rows.ensures.1 (rw e at (c.loop-r.invariant.2 t l))
+    let rows = c.args.rows.now in
+    let w = c.args.w.now in
+    let few = c.rows_to_compare-r-end in
+    let e : c.loop-r.r ≡ few.result = omega arith in
+    λ t l. compared_all rows.queue rows.length w.graph.holders w.current (at w.own t) t few.ensures.0 few.ensures.1 (rw e at (c.loop-r.invariant.1 t l))

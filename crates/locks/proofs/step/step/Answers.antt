@@ -1,128 +1,44 @@
 -- `locks::step::step` meets its contract. Assumes nothing.
-use Prim.Native.Nat.{◌<◌}
-use mathlib.Core.Path.{◌≡◌, refl, sym, subst, ◌∙◌}
-use mathlib.Core.Bool.{Bool, true}
-use native.Mathlib.Omega.{arith}
-use borrow.Author.Rules.{rules}
-use Rattle.table.specs.Table.{queues}
-use Rattle.table.specs.Code.Shape.{Shape}
+use mathlib.Core.Path.{◌≡◌, refl, sym, ap, ◌∙◌}
+use borrow.Author.Tests.{not-true, not-false}
 use Rattle.table.specs.Code.Tracks.{Known}
 use Rattle.table.proofs.Sound.Typed.{typed_shape}
-use Rattle.soundness.specs.Checked.{CheckedRight}
+use Rattle.soundness.proofs.Found.{sound_is}
+use Rattle.refusals.specs.Numbers.{kind_number}
 use Rattle.refusals.specs.Refusals.{refusals, lowest}
-use Rattle.events.specs.Events.{heir}
-use Rattle.events.specs.Code.Rows.{next_at}
-use Rattle.release.specs.Heir.{NextRight}
-use Rattle.events.proofs.Heir.{heir_follows}
-use Rattle.events.proofs.Accepted.Permitted.{early, low}
-use Rattle.apply.specs.Accepted.{Accepted}
-use Rattle.locks.specs.Code.Judged.{Judged}
-use Rattle.locks.proofs.Stepped.{judged_unsound, stepped}
-use Rattle.locks.proofs.step.step.Goals.{then-c, else-c, After-reply-answer, Then-answer-eq0, Joined-c, After-wide-i, After-follower-next}
+use Rattle.locks.proofs.Answered.{not_sound}
+use Rattle.locks.proofs.Stepped.{HeirFollows, ready, stepped}
+use Rattle.locks.proofs.step.step.Goals.{Joined-kind, in-V, in_default}
 use Rattle.locks.proofs.step.step.Goals as goal
 
--- a table by value has the sizes of its arrays by its type
-shape : (c : After-reply-answer) → Shape c.args.t
-shape c = typed_shape _ c.well_formed.0
-
--- what the test hands on
-checked : (c : After-reply-answer) → CheckedRight c.args.t c.numbers-of_own.result c.numbers-current.result c.check-c.result
-checked c = c.check-c.ensures (shape c) c.numbers-of_own.ensures c.numbers-current.ensures
-
--- before the event: the answer of the refusals
-judged : (c : Joined-c) → Judged c.args.t c.args.e c.check-c.result.sound c.if-c.answer
-judged c =
+pub returns-then-not-c : goal.returns-then-not-c
+returns-then-not-c c =
     let t = c.args.t in
-    let e = c.args.e in
-    let r = c.check-c.result in
-    elim c.if-c.branch [
-      | then-c w ↦ subst (λ (b : Bool). Judged t e b c.if-c.answer) (sym w.if-c.true) (subst (Judged t e true) (sym w.answer-is) (w.judge-answer.ensures t c.numbers-of_own.result ((checked (goal.at.Joined-c c).After-reply-answer).known w.if-c.true) refl refl))
-      | else-c w ↦ judged_unsound t e c.if-c.answer (checked (goal.at.Joined-c c).After-reply-answer) w.if-c.false (w.answer-is ∙ c.reply-answer.ensures)
-    ]
+    let checked = c.check-c.ensures (typed_shape _ c.well_formed.0) c.numbers-of_own.ensures c.numbers-current.ensures in
+    rw c.refused.ensures (sym (not_sound t c.args.e (sym (sound_is t checked) ∙ not-true _ c.if-not-c.true)))
 
--- where its number is 0, the table is sound and the record is not refused
-unrefused : (c : Then-answer-eq0) → (c.check-c.result.sound ≡ true) × (lowest (refusals c.args.t c.args.e) ≡ 0)
-unrefused c = (judged (goal.at.Then-answer-eq0 c).Joined-c).passes c.if-answer-eq0.true
+known : (c : Joined-kind) → Known c.args.t c.check-c.result.waits c.check-c.result.holders c.numbers-of_own.result c.numbers-current.result
+known c = (c.check-c.ensures (typed_shape _ c.well_formed.0) c.numbers-of_own.ensures c.numbers-current.ensures).known (not-false _ c.if-not-c.false)
 
--- so that there is a slot of its thread
-in_table : (c : After-wide-i) → c.wide-i.result < 32
-in_table c =
-    let p = goal.at.After-wide-i c in
-    let low_thread = low c.args.t c.args.e (shape p.After-reply-answer) (unrefused p.Then-answer-eq0).1 in
-    omega (arith, c.wide-i.ensures.0)
-
-known : (c : Then-answer-eq0) → Known c.args.t c.check-c.result.waits c.check-c.result.holders c.numbers-of_own.result c.numbers-current.result
-known c = (checked (goal.at.Then-answer-eq0 c).After-reply-answer).known (unrefused c).0
+-- no refusal meets the record, whose kind this is
+named : (c : Joined-kind) → (kind_number c.in-Ok.kind ≡ c.args.e.kind) × (lowest (refusals c.args.t c.args.e) ≡ 0)
+named c = c.in-Ok.ensures.judged (known c)
 
 -- at a V the heir follows
-follows : (c : After-follower-next) → let t = c.args.t in let x = c.follower-next.result in
-    c.args.e.kind ≡ 5 → NextRight t.queue t.length c.numbers-current.result c.args.e.argument x × (next_at t.queue c.args.e.argument x.place ≡ heir t (queues t c.args.e.argument))
-follows c = let d = (goal.at.After-follower-next c).Then-answer-eq0 in c.follower-next.ensures c.args.t _ _ _ (known d) (unrefused d).1 refl refl
-
--- the event is carried out from the table's arrays
-ready : (c : After-follower-next) → let t = c.args.t in let r = c.check-c.result in
-    Accepted t c.args.e t.queue t.length r.holders r.waits c.numbers-of_own.result c.numbers-current.result c.of-before.result t.clock c.follower-next.result
-ready c =
-    let d = (goal.at.After-follower-next c).Then-answer-eq0 in
-    let t = c.args.t in record {
-      known = known d;
-      unrefused = (unrefused d).1;
-      queue_is = refl;
-      lengths_are = refl;
-      slot_is = rw c.wide-i.ensures.0 at c.of-before.ensures;
-      clock_is = refl;
-      next_right = λ k. (follows c k).0;
-      follows = λ k. rw (follows c k).1 (heir_follows t (queues t _) ((known d).sound.bare.queues_right.differ _));
-    }
-
-pub bounds-t-i : goal.bounds-t-i
-bounds-t-i c = in_table (goal.at.bounds-t-i c).After-wide-i
-
-pub bounds-t-i-then-answer-eq0 : goal.bounds-t-i-then-answer-eq0
-bounds-t-i-then-answer-eq0 c = in_table (goal.at.bounds-t-i-then-answer-eq0 c).After-wide-i
-
-pub bounds-t-i-then-answer-eq0-2 : goal.bounds-t-i-then-answer-eq0-2
-bounds-t-i-then-answer-eq0-2 c = in_table (goal.at.bounds-t-i-then-answer-eq0-2 c).After-wide-i
-
-pub bounds-t-i-then-answer-eq0-3 : goal.bounds-t-i-then-answer-eq0-3
-bounds-t-i-then-answer-eq0-3 c = in_table (goal.at.bounds-t-i-then-answer-eq0-3 c).After-wide-i
-
-pub bounds-t-i-then-answer-eq0-4 : goal.bounds-t-i-then-answer-eq0-4
-bounds-t-i-then-answer-eq0-4 c = in_table (goal.at.bounds-t-i-then-answer-eq0-4 c).After-wide-i
-
-pub follower-next-requires : goal.follower-next-requires
-follower-next-requires c = let d = (goal.at.follower-next-requires c).Then-answer-eq0 in (c.args.t, _, _, _, known d, (unrefused d).1, refl)
+follows : (c : Joined-kind) → HeirFollows c.args.t c.args.e c.in-Ok.kind c.numbers-current.result c.match-kind.next
+follows c =
+    let t = c.args.t in
+    elim c.match-kind.branch [
+      | in-V w ↦ record { at_V = λ v. rw w.next-is (w.follower-next.ensures t _ _ _ c.args.e (known c) (named c).1 refl refl (sym (named c).0 ∙ ap kind_number v) refl) }
+      | in_default w ↦ record { at_V = λ v. absurd (w.in_default.not-V v) }
+    ]
 
 pub carry_out-o-requires : goal.carry_out-o-requires
-carry_out-o-requires c = (search rules, (c.args.t, ready (goal.at.carry_out-o-requires c).After-follower-next))
+carry_out-o-requires c =
+    let j = (goal.at.carry_out-o-requires c).Joined-kind in
+    ready (named j) (follows j) (known j) c.in-Ok.ensures.thread c.in-Ok.ensures.clock
 
-pub overflow_add-t : goal.overflow_add-t
-overflow_add-t c =
-    let p = goal.at.overflow_add-t c in
-    let l = early c.args.t c.args.e (shape p.After-reply-answer) (unrefused p.Then-answer-eq0).1 in
-    omega arith
-
-pub bounds-t-i-then-answer-eq0-5 : goal.bounds-t-i-then-answer-eq0-5
-bounds-t-i-then-answer-eq0-5 c = in_table (goal.at.bounds-t-i-then-answer-eq0-5 c).After-wide-i
-
-pub bounds-t-i-then-answer-eq0-6 : goal.bounds-t-i-then-answer-eq0-6
-bounds-t-i-then-answer-eq0-6 c = in_table (goal.at.bounds-t-i-then-answer-eq0-6 c).After-wide-i
-
-pub bounds-t-i-then-answer-eq0-7 : goal.bounds-t-i-then-answer-eq0-7
-bounds-t-i-then-answer-eq0-7 c = in_table (goal.at.bounds-t-i-then-answer-eq0-7 c).After-wide-i
-
-pub bounds-t-i-then-answer-eq0-8 : goal.bounds-t-i-then-answer-eq0-8
-bounds-t-i-then-answer-eq0-8 c = in_table (goal.at.bounds-t-i-then-answer-eq0-8 c).After-wide-i
-
-pub bounds-t-i-then-answer-eq0-9 : goal.bounds-t-i-then-answer-eq0-9
-bounds-t-i-then-answer-eq0-9 c = in_table (goal.at.bounds-t-i-then-answer-eq0-9 c).After-wide-i
-
-pub returns-then-answer-eq0 : goal.returns-then-answer-eq0
-returns-then-answer-eq0 c =
-    let f = (goal.at.returns-then-answer-eq0 c).After-follower-next in
-    let d = (goal.at.returns-then-answer-eq0 c).Then-answer-eq0 in
-    let t = c.args.t in
-    rw c.wide-i.ensures.0 (stepped t c.args.e (unrefused d).1 (λ k. (follows f k).1) (c.carry_out-o.ensures t (ready f)) c.reply-answer-then-answer-eq0.result c.reply-answer-then-answer-eq0.ensures)
-
-pub returns-else-answer-eq0 : goal.returns-else-answer-eq0
-returns-else-answer-eq0 c = (judged (goal.at.returns-else-answer-eq0 c).Joined-c).stands c.if-answer-eq0.false
+pub returns : goal.returns
+returns c =
+    let j = (goal.at.returns c).Joined-kind in
+    stepped (named j) (follows j) c.carry_out-o.ensures c.accepted-answer.result c.accepted-answer.ensures

@@ -16,5 +16,5 @@ free_way : (waits holders : List ℕ) (r t : ℕ) → r < 16 → at holders r �
 free_way waits holders r t low free =
     rw (resource_on waits holders 0 0 64 63 refl r low, thread_past waits holders 0 0 63 62 refl (at holders r) (omega arith)) (nobody_marked t)
 
-pub returns-then-holders-wide-eq-NOBODY : goal.returns-then-holders-wide-eq-NOBODY
-returns-then-holders-wide-eq-NOBODY c = sym (free_way _ _ _ _ c.requires (rw c.wide.ensures.0 at c.if-holders-wide-eq-NOBODY.true))
+pub returns-then-graph-from-eq-NOBODY : goal.returns-then-graph-from-eq-NOBODY
+returns-then-graph-from-eq-NOBODY c = sym (free_way _ _ _ _ c.requires (rw c.from.ensures at c.if-graph-from-eq-NOBODY.true))

@@ -5,8 +5,8 @@ use Rattle.terminal.proofs.spare.turned_away.Goals as goal
 
 -- the step finds the table sound
 pub returns-then-no_such_kind : goal.returns-then-no_such_kind
-returns-then-no_such_kind c = let d = c.step_of-done in renumbered c.args.t d.result d.ensures 17 (rw (eq-eqb d.result.answer.number 2 c.if-no_such_kind.true))
+returns-then-no_such_kind c = renumbered _ _ c.step_of-done.ensures _ (rw (eq-eqb c.step_of-done.result.answer.number 2 (cc)))
 
 -- or not
 pub returns-else-no_such_kind : goal.returns-else-no_such_kind
-returns-else-no_such_kind c = let d = c.step_of-done in renumbered c.args.t d.result d.ensures d.result.answer.number (rw (ne_eqb d.result.answer.number 2 c.if-no_such_kind.false))
+returns-else-no_such_kind c = renumbered _ _ c.step_of-done.ensures _ (rw (ne_eqb c.step_of-done.result.answer.number 2 (λ e. c.if-no_such_kind.false (cc))))

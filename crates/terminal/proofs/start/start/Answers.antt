@@ -1,6 +1,6 @@
 -- `terminal::start::start` meets its contract. The loop's invariant: the tasks before `id` are created. Assumes nothing.
 use Prim.Native.Nat.{ℕ, zero, suc, ◌+◌, ◌-◌, ◌≤◌}
-use mathlib.Core.Path.{◌≡◌, refl, sym, ap, ◌∙◌}
+use mathlib.Core.Path.{◌≡◌, refl}
 use native.Mathlib.Omega.{arith}
 use native.Mathlib.Numerals.{unary_clauses}
 use Rattle.table.specs.Table.{at}
@@ -17,10 +17,9 @@ next (suc n) h = simp unary_clauses refl
 
 pub loop-id-init : goal.loop-id-init
 unfolding created_to
-loop-id-init c = (omega arith, omega arith, c.step_of-done.ensures ∙ rw (c.empty.ensures, c.creation.ensures))
+loop-id-init c = cc
 
 pub loop-id-preserved : goal.loop-id-preserved
 loop-id-preserved c =
-    let l = c.loop-id in
-    let e : l.id + 1 - 1 ≡ l.id = omega arith in
-    (omega arith, omega arith, c.step_of-done-in-loop-id.ensures ∙ rw (l.invariant.2, c.creation-in-loop-id.ensures) (sym (next l.id l.invariant.0)) ∙ ap created_to (sym e))
+    let e : c.loop-id.id + 1 - 1 ≡ c.loop-id.id = omega arith in
+    cc (next c.loop-id.id (omega arith))
