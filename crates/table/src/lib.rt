@@ -62,7 +62,7 @@ impl Table {
             current_priority: [0; Table::THREADS],
             current_time: [0; Table::THREADS],
             rows: Rows {
-                queue: [0; 512],
+                queue: [0; Table::PLACES],
                 length: [0; Table::RESOURCES],
             },
             requests: [0; Table::THREADS],
@@ -100,7 +100,7 @@ impl Table {
     }
 }
 
-// What the table has of one thread, but for its current precedence. A slot is made here and nowhere else.
+// What the table has of one thread, but for its current precedence: the same numbers, `live` too, since C fixes the table's.
 #[derive(Clone, Copy)]
 pub struct Slot {
     pub live: u8,
