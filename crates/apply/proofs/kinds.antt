@@ -1,2 +1,3 @@
 -- Laws of the dispatch by kind.
+mod Ready
 mod Arms

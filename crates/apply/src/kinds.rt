@@ -1,74 +1,44 @@
 // An accepted event, by its kind. No other function asks for the kind.
 ghost use Rattle.std.specs.Prelude.{◌≡◌};
-ghost use Rattle.table.specs.declared.Table.{Table};
-ghost use Rattle.table.specs.Code.Tracks.{Sized};
-ghost use Rattle.events.specs.Code.Rows.{next_at};
+ghost use Rattle.release.specs.Heir.{next_at};
 ghost use Rattle.apply.specs.Accepted.{Accepted, Applied};
 
 use crate::one_slot::{create, exit, set_anew};
-use refusals::Record;
+use refusals::{Kind, Record};
 use release::heir::Next;
 use release::release;
 use request::request;
+use table::workings::Workings;
 use table::{Slot, Table};
 
-// The slot of the event's thread afterwards, and how many threads were worked out afresh.
-#[derive(Clone, Copy)]
-pub struct Change {
-    pub slot: Slot,
-    pub count: u8,
-}
-
-impl Change {
-    fn of(slot: Slot, count: u8) -> Change
-        ensures { result ≡ record { slot = slot; count = count } }
-    {
-        Change { slot, count }
-    }
-}
-
-// The arrays lent become those of the table after the event. `slot` is the slot of its thread before it, `clock` its time, and at a V
-// whoever stands at the place of `next` follows.
-pub fn apply<'a>(
-    queue: &'a mut [u8; Table::PLACES],
-    lengths: &'a mut [u8; Table::RESOURCES],
-    holders: &'a mut [u8; Table::RESOURCES],
-    waits: &'a mut [u8; Table::THREADS],
-    current: &'a mut [u32; Table::THREADS],
-    own: &'a [u32; Table::THREADS],
-    slot: Slot,
-    clock: u16,
-    e: Record,
-    next: Next,
-) -> Change
-    requires { Sized waits.old holders.old current.old × ((t : Table) × Accepted t e queue.old lengths.old holders.old waits.old own.now current.old slot clock next) }
-    ensures { (t : Table) → Accepted t e queue.old lengths.old holders.old waits.old own.now current.old slot clock next →
-        Applied t e (next_at queue.old e.argument next.place) queue.new lengths.new holders.new waits.new current.new result }
+// The table becomes the one after the event, but for the current precedences that it stores, and what was worked out of it goes along.
+// At a V `next` is whoever follows. The result is how many threads were worked out afresh.
+pub fn apply(t: &mut Table, w: &mut Workings, kind: Kind, e: Record, next: Option<Next>) -> u8
+    requires { Accepted t.old e kind w.old.graph.waits w.old.graph.holders w.old.own w.old.current next }
+    ensures { Applied t.old e (next_at t.old.rows.queue e.argument next) t.new w.new.graph.holders w.new.graph.waits w.new.current result }
 {
-    let kind = e.kind;
-    let th = e.thread;
-    let argument = e.argument;
-    match kind {
-        Record::CREATE => Change::of(
-            Slot::fresh(argument, clock),
-            create(current, th, argument, clock),
+    let time = t.clock;
+    t.clock += 1;
+    let slot = t.slot(e.thread);
+    let (slot, count) = match kind {
+        Kind::Create => (
+            Slot::fresh(e.argument, time),
+            create(&mut w.current, e.thread, e.argument, time),
         ),
-        Record::EXIT => Change::of(Slot::dead(), exit(current, th)),
-        Record::SET => Change::of(
-            slot.anew(argument, clock),
-            set_anew(queue, lengths, holders, current, th, argument, clock),
+        Kind::Exit => (Slot::dead(), exit(&mut w.current, e.thread)),
+        Kind::Set => (
+            slot.anew(e.argument, time),
+            set_anew(&t.rows, w, e.thread, e.argument, time),
         ),
-        Record::P => Change::of(
+        Kind::P => (
             slot.requested(),
-            request(queue, lengths, holders, waits, current, th, argument),
+            request(&mut t.rows, w, e.thread, e.argument),
         ),
-        Record::V => Change::of(
+        Kind::V => (
             slot.released(),
-            release(
-                queue, lengths, holders, waits, current, own, th, argument, next,
-            ),
+            release(&mut t.rows, w, e.thread, e.argument, next),
         ),
-        // No other kind is accepted.
-        _ => Change::of(slot, 0),
-    }
+    };
+    t.set_slot(e.thread, slot);
+    count
 }

@@ -5,16 +5,14 @@ ghost use Rattle.locks.specs.Answers.{answer_of};
 use crate::judge::judge;
 use crate::{Answer, Done};
 use apply::finish::carry_out;
-use refusals::{Reason, Record};
+use refusals::{Kind, Reason, Record};
 use release::heir::follower;
 use soundness::check::check;
+use table::Table;
 use table::numbers::numbers;
-use table::queues::wide;
 use table::workings::{Graph, Workings};
-use table::{Slot, Table};
 
-// The table given is changed where it stands, and the result is made once, at the end. Of its arrays only one at a time can be lent to be
-// changed, so the queues' lengths are changed in a copy, made right after the test (docs/DECISIONS.md, "What a call costs").
+// The table given is changed where it stands.
 pub fn step(mut t: Table, e: Record) -> Done
     ensures { result ≡ answer_of t e }
 {
@@ -22,7 +20,7 @@ pub fn step(mut t: Table, e: Record) -> Done
     // (docs/DECISIONS.md, "What a call costs").
     let of_own = numbers(&t.live, &t.priority, &t.time);
     let own = of_own;
-    let mut current = numbers(&t.live, &t.current_priority, &t.current_time);
+    let current = numbers(&t.live, &t.current_priority, &t.current_time);
     let c = check(
         t.clock,
         &t.live,
@@ -51,44 +49,15 @@ pub fn step(mut t: Table, e: Record) -> Done
         own,
         current,
     };
-    if let Err(answer) = judge(&t, &w, e) {
-        return Done { table: t, answer };
-    }
-    let mut lengths = t.rows.length;
-    let i = wide(e.thread);
-    let before = Slot::of(
-        t.live[i],
-        t.priority[i],
-        t.time[i],
-        t.requests[i],
-        t.releases[i],
-    );
-    let next = follower(&t.rows.queue, &t.rows.length, &current, e);
-    let clock = t.clock;
-    let o = carry_out(
-        &mut t.rows.queue,
-        &mut lengths,
-        &own,
-        waits,
-        holders,
-        &mut current,
-        before,
-        clock,
-        e,
-        next,
-    );
-    let slot = o.slot;
-    let priority = o.priority;
-    let time = o.time;
-    t.clock = clock + 1;
-    t.live[i] = slot.live;
-    t.priority[i] = slot.priority;
-    t.time[i] = slot.time;
-    t.requests[i] = slot.requests;
-    t.releases[i] = slot.releases;
-    t.current_priority = priority;
-    t.current_time = time;
-    t.rows.length = lengths;
+    let kind = match judge(&t, &w, e) {
+        Ok(kind) => kind,
+        Err(answer) => return Done { table: t, answer },
+    };
+    let next = match kind {
+        Kind::V => follower(&t.rows, &w.current, e.argument),
+        _ => None,
+    };
+    let o = carry_out(&mut t, w, kind, e, next);
     let answer = Answer::accepted(o.running, o.count);
     Done { table: t, answer }
 }

@@ -1,6 +1,6 @@
 -- Moving the places behind the heir up one by one, and the row that this leaves. Assumes nothing.
 use Prim.Native.Nat.{ℕ, ◌+◌, ◌*◌, ◌-◌, ◌≤◌, ◌<◌}
-use mathlib.Core.Path.{◌≡◌, refl, sym, ap, subst, ◌∙◌}
+use mathlib.Core.Path.{◌≡◌, sym, ap, subst, ◌∙◌}
 use mathlib.Core.Option.{some}
 use mathlib.Core.List.{List}
 use mathlib.Core.Logic.{◌⊎◌, inl, inr, ⊎_elim}
@@ -8,6 +8,7 @@ use native.Mathlib.Decide.{ℕ_discrete, dec_lt}
 use native.Mathlib.Omega.{arith}
 use lib.ListN.{length, take, drop, set, length-set}
 use lib.Seq.{get_or-set_same, get_or-set_other}
+use Rattle.std.specs.List.{CopiedTo, SameBelow, SameFrom}
 use Rattle.protocol.specs.Schedule.{release}
 use Rattle.table.specs.Table.{at}
 use Rattle.table.specs.Code.Places.{entry}
@@ -22,21 +23,14 @@ pub record Shifted (xs : List ℕ) (from i : ℕ) (ys : List ℕ) : Type 0 where
   pub kept : (j : ℕ) → (j < from) ⊎ (i ≤ j) → at ys j ≡ at xs j
   pub moved : (j : ℕ) → from ≤ j → j < i → at ys j ≡ at xs (j + 1)
 
--- none so far
-pub shift_none : (xs : List ℕ) (from : ℕ) → Shifted xs from from xs
-shift_none xs from = record { size = refl; kept = λ j o. refl; moved = λ j l h. absurd (omega arith) }
-
--- one more
-pub shift_next : (xs : List ℕ) (from i : ℕ) (ys : List ℕ) → from ≤ i → i < length xs → Shifted xs from i ys → Shifted xs from (i + 1) (set ys i (at ys (i + 1)))
-shift_next xs from i ys l h s = record {
-  size = length-set ys i (at ys (i + 1)) ∙ s.size;
-  kept = λ j o. get_or-set_other ys i j (at ys (i + 1)) 0 (λ e. ⊎_elim {C = ⊥} (λ k. absurd (omega arith)) (λ k. absurd (omega arith)) o) ∙ s.kept j (⊎_elim inl (λ k. inr (omega arith)) o);
-  moved = λ j a b. go j a b (ℕ_discrete j i);
+-- what `copy_within` leaves of the n entries from a on, where those behind p go one place up
+pub copied : (xs ys : List ℕ) (a p n : ℕ) → p < n → length ys ≡ length xs → CopiedTo xs ys (a + p + 1) (a + p) (a + n - (a + p + 1)) × SameBelow xs ys (a + p) × SameFrom xs ys (a + p + (a + n - (a + p + 1))) →
+    Shifted xs (a + p) (a + n - 1) ys
+copied xs ys a p n h size (up, below, from) = record {
+  size = size;
+  kept = λ j o. ⊎_elim {C = at ys j ≡ at xs j} (below j 0) (λ k. from j 0 (omega arith)) o;
+  moved = λ j l k. let e : a + p + 1 + (j - (a + p)) ≡ j + 1 = omega arith in up j 0 l (omega arith) ∙ ap (at xs) e;
 }
-  where
-    go : (j : ℕ) → from ≤ j → j < i + 1 → Dec (j ≡ i) → at (set ys i (at ys (i + 1))) j ≡ at xs (j + 1)
-    go j a b (yes e) = rw e (get_or-set_same ys i (at ys (i + 1)) 0 (omega (arith, s.size)) ∙ s.kept (i + 1) (inr (omega arith)))
-    go j a b (no n) = get_or-set_other ys i j (at ys (i + 1)) 0 n ∙ s.moved j a (omega arith)
 
 -- The n entries from a on, where the one at p goes to the head: those behind it are moved up, the last place becomes zero, and the head
 -- is written.

@@ -1,4 +1,4 @@
--- V: the arrays that it leaves are those of the table that document 01 defines. Assumes nothing.
+-- V: the arrays that it leaves are those of the table after the event. Assumes nothing.
 use Prim.Native.Nat.{ℕ, ◌*◌, ◌-◌, ◌≤◌, ◌<◌}
 use mathlib.Core.Path.{◌≡◌, refl, sym, ap, ◌∙◌}
 use mathlib.Core.Option.{Option, none, some}
@@ -24,6 +24,7 @@ use Rattle.events.specs.Count.{count, release_count}
 use Rattle.events.specs.Code.Permits.{Permits}
 use Rattle.events.specs.Code.Rows.{Row, rewritten}
 use Rattle.events.specs.Code.Work.{DoneWith}
+use Rattle.events.proofs.Queues.Written.{row_is, emptied}
 use Rattle.events.proofs.Kept.Queues.{release_passes, release_low}
 use Rattle.release.proofs.Shift.{handed_length}
 use Rattle.release.proofs.Passed.{release_head, left, passed_on, waits_passed, dead_passed, law_passed, holders_passed, numbers_passed}
@@ -34,6 +35,10 @@ alone : (q : List ℕ) (th : ℕ) → Distinct q → Holding q th → ((x : ℕ)
 alone [] th d h idle = absurd h.0
 alone (x ∷ []) th d h idle = rw h.1
 alone (x ∷ (y ∷ ys)) th d h idle = absurd (idle y (behind_waiting x (y ∷ ys) y d (inl refl)))
+
+-- the row of a queue of one entry, once that is gone
+emptied_row : (xs : List ℕ) (r : ℕ) → Row xs r 1 → set xs (r * 32) 0 ≡ rewritten xs (r * 32) []
+emptied_row xs r w = row_is xs (r * 32) [] (omega (arith, w.size, w.resource)) (omega arith) (set xs (r * 32) 0) (emptied xs (r * 32) (omega (arith, w.size, w.resource)) w.spare)
 
 module _ (t : Table) {waiting holders owns currents : List ℕ} (k : Known t waiting holders owns currents) (early : t.clock < 65535) where
   -- the row that is written anew
@@ -70,10 +75,10 @@ module _ (t : Table) {waiting holders owns currents : List ℕ} (k : Known t wai
       currents_right = numbers_passed t k early v currents (λ y l. law_passed t k early v y l (nobody y) (λ h. (release_passes t (known_good t k) v).follows)) (dead_passed t k early v);
     }
 
-    pub vacated : Sized waiting holders currents → DoneWith t («V» th cs none) (rewritten t.rows.queue (cs * 32) []) (set t.rows.length cs (at t.rows.length cs - 1)) (set holders cs 32) waiting currents 0
+    pub vacated : Sized waiting holders currents → DoneWith t («V» th cs none) (set t.rows.queue (cs * 32) 0) (set t.rows.length cs (at t.rows.length cs - 1)) (set holders cs 32) waiting currents 0
     unfolding changed with_queue count release_count
     vacated sized = record {
-      queue_is = ap (rewritten t.rows.queue (cs * 32)) (sym nothing_left);
+      queue_is = emptied_row t.rows.queue cs (rw last_one at (row v)) ∙ ap (rewritten t.rows.queue (cs * 32)) (sym nothing_left);
       lengths_are = ap (set t.rows.length cs) (omega (arith, last_one, ap length nothing_left));
       tracks = vacated_tracks sized;
       counted = refl;

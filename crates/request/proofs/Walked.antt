@@ -1,4 +1,4 @@
--- The code's way up the holders: what it leaves are the current precedences, and what it counts is document 01's walk. Assumes nothing.
+-- The code's way up the holders: what it leaves are the current precedences, and what it counts is the walk as it is defined. Assumes nothing.
 use Prim.Native.Nat.{ℕ, ◌≤◌, ◌<◌}
 use mathlib.Core.Path.{◌≡◌, refl, sym, ap, subst, ◌∙◌}
 use mathlib.Core.List.{List}

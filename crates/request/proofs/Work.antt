@@ -118,7 +118,7 @@ module _ {t : Table} {th cs : ℕ} {queue lengths holders waiting owns currents 
   joined = rw (k.queue_is, k.lengths_are, ← joined_length t good cs th resource) (joined_places t good cs th resource (room_for t good cs th resource fits), refl)
 
   -- cs was free: th holds it, and no number changes
-  pub free_done : Sized waiting holders currents → at lengths cs ≡ 0 →
+  pub free_done : length holders ≡ 16 → at lengths cs ≡ 0 →
       DoneWith t (P th cs) (set queue (cs * 32 + at lengths cs) th) (set lengths cs (at lengths cs + 1)) (set holders cs th) waiting currents 0
   unfolding changed count request_count first_or_32
   free_done size z =
@@ -127,7 +127,7 @@ module _ {t : Table} {th cs : ℕ} {queue lengths holders waiting owns currents 
         lengths_are = joined.1;
         tracks = record {
           waits_right = λ x h. waits_still x h (inr (none e));
-          holders_right = holders_now size.holders_size th (rw e);
+          holders_right = holders_now size th (rw e);
           currents_right = worths_tracked after after_good currents (all_worth after after_good (at currents) (λ y l. others_lawful y l (none e y))) dead_still;
         };
         counted = rw e;

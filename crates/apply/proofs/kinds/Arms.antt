@@ -1,29 +1,31 @@
--- Each kind of accepted record: its event may begin, and what it leaves is the record's. Assumes nothing.
-use Prim.Native.Nat.{ℕ, ◌≤◌, ◌<◌}
-use mathlib.Core.Path.{◌≡◌, refl}
-use mathlib.Core.Option.{Option, some}
+-- Each kind of accepted record: what is left, once its thread has its slot back and the clock is one further, is the record's. Assumes nothing.
+use Prim.Native.Nat.{ℕ, ◌+◌, ◌≤◌}
+use mathlib.Core.Path.{◌≡◌, sym}
+use mathlib.Core.Option as paper
 use mathlib.Core.List.{List, [], ◌∷◌, ◌++◌}
 use mathlib.Core.Logic.{by_cases}
 use native.Mathlib.Decide.{ℕ_discrete}
-use native.Mathlib.Omega.{arith}
 use lib.ListN.{set as put, length-set}
 use lib.Seq.{ext_get_or, get_or-set_same, get_or-set_other}
+use Rattle.std.specs.declared.option.Option.{Option}
 use Rattle.protocol.specs.Events.{Event, Create, Exit, Set, P, «V»}
 use Rattle.protocol.specs.Schedule.{release as leave}
 use Rattle.table.specs.declared.Table.{Table}
+use Rattle.table.specs.declared.Rows.{Rows}
 use Rattle.table.specs.declared.Slot.{Slot}
+use Rattle.table.specs.declared.workings.Workings.{Workings}
 use Rattle.table.specs.Table.{at, slot, dead_slot, queues}
-use Rattle.table.specs.Slots.{fresh_slot, set_slot, requested_slot, released_slot}
+use Rattle.table.specs.Slots.{fresh_slot, set_slot, requested_slot, released_slot, with_slot}
 use Rattle.refusals.specs.declared.Record.{Record}
-use Rattle.events.specs.Events.{later, with_slot, one_request_more, one_release_more, with_queue, changed, named}
-use Rattle.events.specs.Code.Permits.{Permits}
-use Rattle.events.specs.Code.Rows.{next_at}
+use Rattle.refusals.specs.declared.kinds.Kind.{Kind}
+use Rattle.refusals.specs.declared.kinds.Kind.TheVariants as kinds
+use Rattle.events.specs.Events.{later, one_request_more, one_release_more, with_queue, changed, named}
 use Rattle.events.specs.Code.Work.{Begun, DoneWith}
 use Rattle.events.proofs.Accepted.Named.{names_create, names_exit, names_set, names_request, names_release}
-use Rattle.events.proofs.Accepted.Permitted.{early, create_permitted, exit_permitted, set_permitted, request_permitted, release_permitted}
 use Rattle.release.specs.declared.heir.Next.{Next}
-use Rattle.apply.specs.declared.kinds.Change.{Change}
-use Rattle.apply.specs.Accepted.{Accepted, Applied, made_table}
+use Rattle.release.specs.Heir.{next_at}
+use Rattle.apply.specs.Accepted.{Accepted, Applied}
+use Rattle.apply.proofs.kinds.Ready.{number_is, create_begun, exit_begun, set_begun, request_begun, release_begun}
 
 -- what stands at a place may be written there once more
 same_again : (xs : List ℕ) (i : ℕ) → put xs i (at xs i) ≡ xs
@@ -31,66 +33,72 @@ same_again xs i = ext_get_or 0 (put xs i (at xs i)) xs (length-set xs i (at xs i
     (λ e. rw e (get_or-set_same xs i (at xs i) 0 (rw (e, length-set xs i (at xs i)) at h)))
     (λ n. get_or-set_other xs i j (at xs i) 0 n))
 
--- a table with one slot or one queue written, by its arrays
-module _ (t : Table) (th : ℕ) where
-  slot_made : (n : Slot) → later (with_slot t th n) ≡ made_table t th n (with_slot t th n).rows.queue (with_slot t th n).rows.length
-  unfolding with_slot
-  slot_made n = refl
+-- the table with these queues, one event later
+abbrev with_rows : Table → Rows → Table
+with_rows t rows = record {
+  clock = t.clock + 1;
+  live = t.live;
+  priority = t.priority;
+  time = t.time;
+  current_priority = t.current_priority;
+  current_time = t.current_time;
+  rows = rows;
+  requests = t.requests;
+  releases = t.releases;
+}
 
-  request_made : (cs : ℕ) (q : List ℕ) → later (with_queue (one_request_more t th) cs q) ≡ made_table t th (requested_slot (slot t th)) (with_queue (one_request_more t th) cs q).rows.queue (with_queue (one_request_more t th) cs q).rows.length
-  unfolding with_queue
-  request_made cs q = rw (same_again t.live th, same_again t.priority th, same_again t.time th, same_again t.releases th)
+-- and with this slot for th: the code's table at the end of an event, but for the current precedences
+abbrev left : Table → ℕ → Slot → Rows → Table
+left t th s rows = with_slot (with_rows t rows) th s
 
-  release_made : (cs : ℕ) (q : List ℕ) → later (with_queue (one_release_more t th) cs q) ≡ made_table t th (released_slot (slot t th)) (with_queue (one_release_more t th) cs q).rows.queue (with_queue (one_release_more t th) cs q).rows.length
-  unfolding with_queue
-  release_made cs q = rw (same_again t.live th, same_again t.priority th, same_again t.time th, same_again t.requests th)
+-- of a P and a V, whose definitions write a total and no slot
+module _ (t : Table) (th cs : ℕ) (q : List ℕ) where
+  request_left : later (with_queue (one_request_more t th) cs q) ≡ left t th (requested_slot (slot t th)) (with_queue (one_request_more t th) cs q).rows
+  unfolding with_queue with_slot
+  request_left = rw (same_again t.live th, same_again t.priority th, same_again t.time th, same_again t.releases th)
 
-module _ (t : Table) (e : Record) {queue lengths holders waits owns currents : List ℕ} {s : Slot} {clock : ℕ} {x : Next} (a : Accepted t e queue lengths holders waits owns currents s clock x) where
-  -- an event that the table permits may begin
-  pub begun : {ev : Event} → Permits t ev → Begun t ev queue lengths holders waits owns currents
-  begun permits = record { known = a.known; early = early t e a.known.shape a.unrefused; permitted = permits; queue_is = a.queue_is; lengths_are = a.lengths_are }
+  release_left : later (with_queue (one_release_more t th) cs q) ≡ left t th (released_slot (slot t th)) (with_queue (one_release_more t th) cs q).rows
+  unfolding with_queue with_slot
+  release_left = rw (same_again t.live th, same_again t.priority th, same_again t.time th, same_again t.requests th)
 
-  -- no total is above the clock, so that one more fits
-  pub totals_early : (s.requests < 65535) × (s.releases < 65535)
-  totals_early = let low = a.known.sound.totals.low e.thread in let room = early t e a.known.shape a.unrefused in rw a.slot_is (omega (arith, low.0, room), omega (arith, low.1, room))
+module _ {t : Table} {e : Record} {kind : Kind} {waits holders owns currents : List ℕ} {next : Option Next} (a : Accepted t e kind waits holders owns currents next) where
+  abbrev follower : paper.Option ℕ
+  follower = next_at t.rows.queue e.argument next
 
-  abbrev pub next : Option ℕ
-  next = next_at queue e.argument x.place
+  -- the table, what goes along and the count, where the code has the slot and the count as a pair, are the record's
+  abbrev Left : Table → Workings → Slot × ℕ → Type 0
+  Left x w p = Applied t e follower x w.graph.holders w.graph.waits w.current p.1
 
-  module _ {queue' lengths' holders' waits' currents' : List ℕ} {c : Change} where
-    -- what it leaves is the record's, once the slot is the one that it writes
-    applied : {ev : Event} → named e next ≡ some ev → Permits t ev → {n : ℕ} {m : Slot} → DoneWith t ev queue' lengths' holders' waits' currents' n → c ≡ record { slot = m; count = n } →
-        changed t ev ≡ made_table t e.thread m (changed t ev).rows.queue (changed t ev).rows.length → Applied t e next queue' lengths' holders' waits' currents' c
-    applied {ev} is permits {n} {m} d q made = record {
+  -- the table comes by way of u
+  module _ {x u : Table} {p : Slot × ℕ} {w v : Workings} {rows : Rows} {s : Slot} {n : ℕ} (wrote : x ≡ with_slot u e.thread p.0) (queued : u ≡ with_rows t rows) (worked : w ≡ v) (is : p ≡ (s, n)) where
+    applied : {ev : Event} → named e follower ≡ paper.some ev → Begun t ev t.rows.queue t.rows.length holders waits owns currents → DoneWith t ev rows.queue rows.length v.graph.holders v.graph.waits v.current n →
+        changed t ev ≡ left t e.thread s (changed t ev).rows → Left x w p
+    unfolding with_slot
+    applied {ev} names b d made = rw (wrote, queued, worked, is) (record {
       event = ev;
-      named_is = is;
-      permitted = permits;
-      done = rw q d;
-      made = rw (q, d.queue_is, d.lengths_are) made;
-    }
+      named_is = names;
+      permitted = b.permitted;
+      made = rw (d.queue_is, d.lengths_are) (sym made);
+      tracks = d.tracks;
+      counted = d.counted;
+    })
 
-    pub create_applied : (k : e.kind ≡ 1) → e.argument ≤ 255 → {n : ℕ} → DoneWith t (Create e.thread e.argument) queue' lengths' holders' waits' currents' n →
-        c ≡ record { slot = fresh_slot e.argument clock; count = n } → Applied t e next queue' lengths' holders' waits' currents' c
-    unfolding changed
-    create_applied k small d q = applied (names_create e next k) (create_permitted t e a.known.shape a.unrefused k small) d (rw a.clock_is at q) (slot_made t e.thread (fresh_slot e.argument t.clock))
+    pub create_applied : e.argument ≤ 255 → (k : kind ≡ kinds.Create) → s ≡ fresh_slot e.argument t.clock → DoneWith t (Create e.thread e.argument) rows.queue rows.length v.graph.holders v.graph.waits v.current n → Left x w p
+    unfolding changed with_slot
+    create_applied small k q d = applied (names_create e follower (number_is a k)) (create_begun a small k) d (rw q)
 
-    pub exit_applied : (k : e.kind ≡ 2) → {n : ℕ} → DoneWith t (Exit e.thread) queue' lengths' holders' waits' currents' n →
-        c ≡ record { slot = dead_slot; count = n } → Applied t e next queue' lengths' holders' waits' currents' c
-    unfolding changed
-    exit_applied k d q = applied (names_exit e next k) (exit_permitted t e a.known.shape a.unrefused k) d q (slot_made t e.thread dead_slot)
+    pub exit_applied : (k : kind ≡ kinds.Exit) → s ≡ dead_slot → DoneWith t (Exit e.thread) rows.queue rows.length v.graph.holders v.graph.waits v.current n → Left x w p
+    unfolding changed with_slot
+    exit_applied k q d = applied (names_exit e follower (number_is a k)) (exit_begun a k) d (rw q)
 
-    pub set_applied : (k : e.kind ≡ 3) → e.argument ≤ 255 → {n : ℕ} → DoneWith t (Set e.thread e.argument) queue' lengths' holders' waits' currents' n →
-        c ≡ record { slot = set_slot s e.argument clock; count = n } → Applied t e next queue' lengths' holders' waits' currents' c
-    unfolding changed
-    set_applied k small d q = applied (names_set e next k) (set_permitted t e a.known.shape a.unrefused k small) d (rw (a.clock_is, a.slot_is) at q) (slot_made t e.thread (set_slot (slot t e.thread) e.argument t.clock))
+    pub set_applied : e.argument ≤ 255 → (k : kind ≡ kinds.Set) → s ≡ set_slot (slot t e.thread) e.argument t.clock → DoneWith t (Set e.thread e.argument) rows.queue rows.length v.graph.holders v.graph.waits v.current n → Left x w p
+    unfolding changed with_slot
+    set_applied small k q d = applied (names_set e follower (number_is a k)) (set_begun a small k) d (rw q)
 
-    pub request_applied : (k : e.kind ≡ 4) → {n : ℕ} → DoneWith t (P e.thread e.argument) queue' lengths' holders' waits' currents' n →
-        c ≡ record { slot = requested_slot s; count = n } → Applied t e next queue' lengths' holders' waits' currents' c
+    pub request_applied : (k : kind ≡ kinds.P) → s ≡ requested_slot (slot t e.thread) → DoneWith t (P e.thread e.argument) rows.queue rows.length v.graph.holders v.graph.waits v.current n → Left x w p
     unfolding changed
-    request_applied k d q = applied (names_request e next k) (request_permitted t e a.known.shape a.unrefused k) d (rw a.slot_is at q) (request_made t e.thread e.argument (queues t e.argument ++ (e.thread ∷ [])))
+    request_applied k q d = applied (names_request e follower (number_is a k)) (request_begun a k) d (rw q (request_left t e.thread e.argument (queues t e.argument ++ (e.thread ∷ []))))
 
-    pub release_applied : (k : e.kind ≡ 5) → {n : ℕ} → DoneWith t («V» e.thread e.argument next) queue' lengths' holders' waits' currents' n →
-        c ≡ record { slot = released_slot s; count = n } → Applied t e next queue' lengths' holders' waits' currents' c
+    pub release_applied : (k : kind ≡ kinds.V) → s ≡ released_slot (slot t e.thread) → DoneWith t («V» e.thread e.argument follower) rows.queue rows.length v.graph.holders v.graph.waits v.current n → Left x w p
     unfolding changed
-    release_applied k d q = applied (names_release e next k) (release_permitted t e a.known.shape a.unrefused k (a.follows k)) d (rw a.slot_is at q)
-        (release_made t e.thread e.argument (leave (queues t e.argument) next))
+    release_applied k q d = applied (names_release e follower (number_is a k)) (release_begun a k) d (rw q (release_left t e.thread e.argument (leave (queues t e.argument) follower)))

@@ -1,8 +1,6 @@
 -- The places of one queue, which an event writes anew. Assumes nothing.
-use Rattle.std.specs.Prelude.{ℕ, ◌+◌, ◌*◌, ◌-◌, ◌≤◌, ◌<◌, ◌≡◌, cond, List, ◌++◌, eqb, length, take, drop, replicate}
-use Rattle.std.proofs.Math.Option.{Option, none, some}
+use Rattle.std.specs.Prelude.{ℕ, ◌+◌, ◌*◌, ◌-◌, ◌≤◌, ◌<◌, ◌≡◌, List, ◌++◌, length, take, drop, replicate}
 use Rattle.protocol.specs.Sets.{Distinct}
-use Rattle.protocol.specs.Events.{Thread}
 use Rattle.table.specs.Code.Places.{entry}
 
 -- a queue of n, not empty: its row lies within the places, its entries differ, and the places behind it are zero
@@ -21,7 +19,3 @@ behind xs a q = replicate (32 - length q) 0 ++ drop (a + 32) xs
 -- the row from a on becomes q, and zeros behind it
 abbrev pub rewritten : List ℕ → ℕ → List ℕ → List ℕ
 rewritten xs a q = take a xs ++ (q ++ behind xs a q)
-
--- who stands at place p of the queue of r; place 0, the holder's own, stands for nobody
-abbrev pub next_at : List ℕ → ℕ → ℕ → Option Thread
-next_at queue r p = cond (eqb p 0) none (some (entry queue r p))

@@ -1,15 +1,10 @@
--- `release::hand_over` meets its contract. The loop's invariant: only the places from the heir's on have changed, up to `at`,
--- each filled from the one behind it. Assumes nothing.
-use Prim.Native.Nat.{◌+◌, ◌*◌, ◌-◌}
-use mathlib.Core.Path.{◌≡◌}
-use native.Mathlib.Omega.{arith}
-use Rattle.release.proofs.Shift.{handed_row}
+-- `release::hand_over` meets its contract. Assumes nothing.
+use Prim.Native.Nat.{◌*◌}
+use Rattle.release.proofs.Shift.{copied, handed_row}
 use Rattle.release.proofs.hand_over.Goals as goal
 
-pub returns : goal.returns
-returns c =
-    let h = c in
-    let a = h.args in
-    let p = h.requires in
-    let end : h.loop-at.at ≡ a.r * 32 + a.n - 1 = omega arith in
-    handed_row a.queue.now a.r a.p a.n p.0 p.1 p.2 h.loop-at.queue (rw end at h.loop-at.invariant.4)
+pub returns-clause-written : goal.returns-clause-written
+returns-clause-written c =
+    let a = c.args in
+    let p = c.requires in
+    handed_row a.queue.now a.r a.p a.n p.0 p.1 p.2 c.copy_within.new.self (copied a.queue.now c.copy_within.new.self (a.r * 32) a.p a.n p.2 c.copy_within.ensures.len c.copy_within.ensures.by_index)

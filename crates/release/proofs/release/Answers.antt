@@ -1,12 +1,13 @@
 -- `release::release` meets its contract. Assumes nothing.
 use Prim.Native.Nat.{ℕ, ◌*◌, ◌-◌, ◌≤◌, ◌<◌}
 use mathlib.Core.Path.{◌≡◌}
-use mathlib.Core.Option.{none, some}
-use mathlib.Core.List.{List, []}
-use mathlib.Core.Logic.{◌≢◌}
+use mathlib.Core.Option.{some}
+use mathlib.Core.List.{List}
 use native.Mathlib.Omega.{arith}
-use borrow.Author.Tests.{ne_eqb}
+use borrow.Author.Rules.{rules}
 use lib.ListN.{set, take, drop}
+use Rattle.std.specs.declared.option.Option.{Option}
+use Rattle.std.specs.declared.option.Option.TheVariants.{Some, None}
 use Rattle.protocol.specs.Sets.{Max}
 use Rattle.protocol.specs.Events.{«V»}
 use Rattle.protocol.specs.Schedule.{release as leave}
@@ -16,92 +17,55 @@ use Rattle.table.specs.Code.Places.{entry}
 use Rattle.table.specs.Code.Tracks.{Sized}
 use Rattle.chains.specs.Law.{Compared}
 use Rattle.events.specs.Code.Permits.{Permits}
-use Rattle.events.specs.Code.Rows.{Row, rewritten, next_at}
+use Rattle.events.specs.Code.Rows.{rewritten}
 use Rattle.events.specs.Code.Work.{Begun, DoneWith}
 use Rattle.release.specs.declared.heir.Next.{Next}
-use Rattle.release.specs.Heir.{NextRight}
+use Rattle.release.specs.Heir.{GreatestBehind, NextRight, next_at}
 use Rattle.release.proofs.Successor.{both_low}
-use Rattle.release.proofs.Work.{row, last_one, vacated, handed_on}
+use Rattle.release.proofs.Work.{vacated, handed_on}
 use Rattle.release.proofs.release.Goals as goal
 
--- the values as the code has them, beside those of the laws
-module _ {queue lengths holders waiting owns currents : List ℕ} (t : Table) (th cs : ℕ) (x : Next) (b : Begun t («V» th cs (next_at queue cs x.place)) queue lengths holders waiting owns currents) (r : ℕ) (wide : r ≡ cs) where
-  its_row : Row queue r (at lengths r)
-  its_row = rw (wide, b.queue_is, b.lengths_are) (row t b.known b.early b.permitted)
+-- the values as the code has them, beside those of the laws: r is the index for cs
+module _ {queue lengths holders waiting owns currents : List ℕ} {t : Table} {th cs r : ℕ} {next : Option Next} (wide : r ≡ cs) (b : Begun t («V» th cs (next_at queue cs next)) queue lengths holders waiting owns currents) where
+  -- nobody follows
+  nobody : next ≡ None → Sized waiting holders currents → DoneWith t («V» th cs (next_at queue cs next)) (set queue (r * 32) 0) (set lengths r (at lengths r - 1)) (set holders r 32) waiting currents 0
+  nobody is sized = rw (is, wide, b.queue_is, b.lengths_are) (vacated t b.known b.early (rw is at b.permitted) sized)
 
-  -- place 0: nobody follows
-  module _ (zero : x.place ≡ 0) where
-    no_next : Permits t («V» th cs none)
-    no_next = rw zero at b.permitted
+  -- x says who follows
+  module _ {x : Next} (is : next ≡ Some x) where
+    follows : Permits t («V» th cs (some (entry t.rows.queue cs x.place)))
+    follows = rw (is, b.queue_is) at b.permitted
 
-    one_entry : Row queue r 1
-    one_entry =
-        let one : at lengths r ≡ 1 = rw (wide, b.lengths_are) (last_one t b.known b.early no_next) in
-        rw one at its_row
+    -- both who hold the resource, before and after, are threads
+    low : (th < 32) × (entry queue r x.place < 32)
+    low = rw (wide, b.queue_is) (both_low t b.known b.early follows)
 
-    nobody : Sized waiting holders currents → (queue' : List ℕ) → queue' ≡ rewritten queue (r * 32) [] →
-        DoneWith t («V» th cs (next_at queue cs x.place)) queue' (set lengths r (at lengths r - 1)) (set holders r 32) waiting currents 0
-    nobody sized queue' e = rw (e, zero, wide, b.queue_is, b.lengths_are) (vacated t b.known b.early no_next sized)
-
-  -- another place
-  module _ (not-zero : x.place ≢ 0) where
-    abbrev heir : ℕ
-    heir = entry queue r x.place
-
-    some_next : Permits t («V» th cs (some (entry t.rows.queue cs x.place)))
-    some_next = rw (ne_eqb x.place 0 not-zero, b.queue_is) at b.permitted
-
-    its_low : (th < 32) × (heir < 32)
-    its_low = rw (wide, b.queue_is) (both_low t b.known b.early some_next)
-
-    somebody : Sized waiting holders currents → NextRight queue lengths currents cs x → (m i h w : ℕ) → m ≡ at lengths r → i ≡ th → h ≡ heir → w ≡ heir →
-        (queue' : List ℕ) → queue' ≡ rewritten queue (r * 32) (leave (take m (drop (r * 32) queue)) (some heir)) →
+    somebody : NextRight queue lengths currents cs next → Sized waiting holders currents → (n i heir h : ℕ) → n ≡ at lengths r → i ≡ th → heir ≡ entry queue r x.place → h ≡ heir →
+        (queue' : List ℕ) → queue' ≡ rewritten queue (r * 32) (leave (take n (drop (r * 32) queue)) (some (entry queue r x.place))) →
         (first : ℕ) → Max ◌≤◌ (Compared queue' (set lengths r (at lengths r - 1)) (set holders r heir) currents 16 (at owns i) th) first →
-        DoneWith t («V» th cs (next_at queue cs x.place)) queue' (set lengths r (at lengths r - 1)) (set holders r heir) (set waiting w 16) (set (set currents i first) h x.number) 2
-    somebody sized right m i h w wide_m wide_i wide_h wide_w queue' is first first-is =
-        rw (ne_eqb x.place 0 not-zero, is, wide_m, wide_i, wide_h, wide_w, wide, b.queue_is, b.lengths_are)
-        (handed_on t b.known b.early x.place some_next (omega arith) (rw b.lengths_are at right.within) sized first (rw (is, wide_m, wide_i, wide, b.queue_is, b.lengths_are) at first-is)
-        x.number (rw (b.queue_is, b.lengths_are) at (right.greatest (omega arith))))
+        DoneWith t («V» th cs (next_at queue cs next)) queue' (set lengths r (at lengths r - 1)) (set holders r heir) (set waiting h 16) (set (set currents i first) h x.number) 2
+    somebody right sized n i heir h size index is_heir is_h queue' wrote first first-is =
+        let sure : GreatestBehind t.rows.queue t.rows.length currents cs x = rw (is, b.queue_is, b.lengths_are) at right in
+        rw (is, wrote, size, index, is_h, is_heir, wide, b.queue_is, b.lengths_are)
+        (handed_on t b.known b.early x.place follows sure.behind sure.within sized first (rw (wrote, size, index, is_heir, wide, b.queue_is, b.lengths_are) at first-is) x.number sure.greatest)
 
-pub vacate-requires : goal.vacate-requires
-vacate-requires c = let a = c.args in one_entry c.requires.2.0 a.thread a.resource a.next c.requires.2.1 c.wide-r.result c.wide-r.ensures.0 c.if-p-eq0.true
+pub returns-in_default-clause-done : goal.returns-in_default-clause-done
+returns-in_default-clause-done c t b = nobody c.from-r.ensures b c.in_default.is (search rules)
 
-pub returns-then-p-eq0 : goal.returns-then-p-eq0
-returns-then-p-eq0 c =
-    let a = c.args in
-    λ t b. nobody t a.thread a.resource a.next b c.wide-r.result c.wide-r.ensures.0 c.if-p-eq0.true c.requires.0 c.vacate.new.queue c.vacate.ensures
+pub bounds-w-h : goal.bounds-w-h
+bounds-w-h c = omega (arith, c.hand_over-heir.ensures.heir, (low c.from-r.ensures c.requires.1.1 c.in-Some.is).1)
 
-pub hand_over-requires : goal.hand_over-requires
-hand_over-requires c =
-    let a = c.args in
-    let place : a.next.place < at a.lengths.now c.wide-r.result = rw c.wide-r.ensures.0 c.requires.1.within in
-    rw c.wide.ensures.0 (its_row c.requires.2.0 a.thread a.resource a.next c.requires.2.1 c.wide-r.result c.wide-r.ensures.0, omega (arith, c.if-p-eq0.false), place)
+pub bounds-w-i : goal.bounds-w-i
+bounds-w-i c = omega (arith, (low c.from-r.ensures c.requires.1.1 c.in-Some.is).0)
 
--- somebody follows: the thread and whoever follows have their places in the numbers
+pub bounds-w-i-2 : goal.bounds-w-i-2
+bounds-w-i-2 c = omega (arith, (low c.from-r.ensures c.requires.1.1 c.in-Some.is).0)
 
-pub bounds-waits-wide : goal.bounds-waits-wide
-bounds-waits-wide c =
-    let a = c.args in
-    omega (arith, c.wide-2.ensures.0, (its_low c.requires.2.0 a.thread a.resource a.next c.requires.2.1 c.wide-r.result c.wide-r.ensures.0 c.if-p-eq0.false).1)
+pub bounds-w-h-2 : goal.bounds-w-h-2
+bounds-w-h-2 c = omega (arith, c.hand_over-heir.ensures.heir, (low c.from-r.ensures c.requires.1.1 c.in-Some.is).1)
 
-pub bounds-own-i : goal.bounds-own-i
-bounds-own-i c =
-    let a = c.args in
-    omega (arith, c.wide-i.ensures.0, (its_low c.requires.2.0 a.thread a.resource a.next c.requires.2.1 c.wide-r.result c.wide-r.ensures.0 c.if-p-eq0.false).0)
-
-pub bounds-current-i : goal.bounds-current-i
-bounds-current-i c =
-    let a = c.args in
-    omega (arith, c.wide-i.ensures.0, (its_low c.requires.2.0 a.thread a.resource a.next c.requires.2.1 c.wide-r.result c.wide-r.ensures.0 c.if-p-eq0.false).0)
-
-pub bounds-current-wide : goal.bounds-current-wide
-bounds-current-wide c =
-    let a = c.args in
-    omega (arith, c.wide-3.ensures.0, (its_low c.requires.2.0 a.thread a.resource a.next c.requires.2.1 c.wide-r.result c.wide-r.ensures.0 c.if-p-eq0.false).1)
-
-pub returns : goal.returns
-returns c =
-    let a = c.args in
-    λ t b. somebody t a.thread a.resource a.next b c.wide-r.result c.wide-r.ensures.0 c.if-p-eq0.false c.requires.0 c.requires.1
-    c.wide.result c.wide-i.result c.wide-3.result c.wide-2.result c.wide.ensures.0 c.wide-i.ensures.0 c.wide-3.ensures.0 c.wide-2.ensures.0
-    c.hand_over.new.queue c.hand_over.ensures c.afresh-left.result c.afresh-left.ensures
+pub returns-clause-done : goal.returns-clause-done
+returns-clause-done c t b =
+    let h = c.hand_over-heir in
+    somebody c.from-r.ensures b c.in-Some.is c.requires.0 (search rules) c.from-n.result c.from-i.result h.result c.from-h.result c.from-n.ensures c.from-i.ensures h.ensures.heir c.from-h.ensures
+    h.new.queue h.ensures.written c.afresh-left.result c.afresh-left.ensures

@@ -1,77 +1,34 @@
 -- `apply::kinds::apply` meets its contract: by the kind, each event's own function does it. Assumes nothing.
-use mathlib.Core.Path.{◌∙◌}
-use Rattle.events.proofs.Accepted.Permitted.{low, no_other, create_permitted, exit_permitted, set_permitted, request_permitted, release_permitted}
-use Rattle.apply.proofs.kinds.Arms.{begun, totals_early, create_applied, exit_applied, set_applied, request_applied, release_applied}
+use Prim.Native.Nat.{◌≤◌}
+use mathlib.Core.Path.{refl}
 use native.Mathlib.Omega.{arith}
+use Rattle.apply.proofs.kinds.Ready.{totals_early, create_begun, exit_begun, set_begun, request_begun, release_begun}
+use Rattle.apply.proofs.kinds.Arms.{create_applied, exit_applied, set_applied, request_applied, release_applied}
+use Rattle.apply.proofs.kinds.apply.Goals.{in-Create, in-Exit, in-Set, in-P, in-V}
 use Rattle.apply.proofs.kinds.apply.Goals as goal
 
-pub create-requires : goal.create-requires
-create-requires c =
-    let h = c in
-    let a = h.requires.1.1 in
-    (low h.requires.1.0 h.args.e a.known.shape a.unrefused, h.requires.0.currents_size)
-
-pub exit-requires : goal.exit-requires
-exit-requires c =
-    let h = c in
-    let a = h.requires.1.1 in
-    (low h.requires.1.0 h.args.e a.known.shape a.unrefused, h.requires.0.currents_size)
-
 pub requested-requires : goal.requested-requires
-requested-requires c =
-    let h = c in
-    (totals_early h.requires.1.0 h.args.e h.requires.1.1).0
-
-pub request-requires : goal.request-requires
-request-requires c =
-    let h = c in
-    let a = h.requires.1.1 in
-    (h.requires.0, (h.requires.1.0, h.args.own.now, begun h.requires.1.0 h.args.e a (request_permitted h.requires.1.0 h.args.e a.known.shape a.unrefused c.in-4.is)))
+requested-requires c = rw c.slot-slot.ensures (totals_early c.requires).0
 
 pub released-requires : goal.released-requires
-released-requires c =
-    let h = c in
-    (totals_early h.requires.1.0 h.args.e h.requires.1.1).1
+released-requires c = rw c.slot-slot.ensures (totals_early c.requires).1
+
+pub request-requires : goal.request-requires
+request-requires c = (c.args.t.now, c.args.w.now.own, request_begun c.requires c.in-P.is)
 
 pub release-requires : goal.release-requires
-release-requires c =
-    let h = c in
-    let a = h.requires.1.1 in
-    let k = c.in-5.is in
-    (h.requires.0, a.next_right k, (h.requires.1.0, begun h.requires.1.0 h.args.e a (release_permitted h.requires.1.0 h.args.e a.known.shape a.unrefused k (a.follows k))))
+release-requires c = (c.requires.next_right c.in-V.is, (c.args.t.now, release_begun c.requires c.in-V.is))
 
-pub returns-in-1 : goal.returns-in-1
-returns-in-1 c =
-    let e = c.args.e in
-    λ t a. create_applied t e a c.in-1.is (omega arith) (c.create.ensures t _ _ _ _ _ (begun t e a (create_permitted t e a.known.shape a.unrefused c.in-1.is (omega arith))) a.clock_is) (c.of.ensures ∙ rw c.fresh.ensures)
-
-pub returns-in-2 : goal.returns-in-2
-returns-in-2 c =
-    let e = c.args.e in
-    λ t a. exit_applied t e a c.in-2.is (c.exit.ensures t _ _ _ _ _ (begun t e a (exit_permitted t e a.known.shape a.unrefused c.in-2.is))) (c.of-in-2.ensures ∙ rw c.dead.ensures)
-
-pub returns-in-3 : goal.returns-in-3
-returns-in-3 c =
-    let e = c.args.e in
-    λ t a. set_applied t e a c.in-3.is (omega arith) (c.set_anew.ensures t _ _ (begun t e a (set_permitted t e a.known.shape a.unrefused c.in-3.is (omega arith))) a.clock_is) (c.of-in-3.ensures ∙ rw c.anew.ensures)
-
-pub returns-in-4 : goal.returns-in-4
-returns-in-4 c =
-    let e = c.args.e in
-    λ t a. request_applied t e a c.in-4.is (c.request.ensures t _ (begun t e a (request_permitted t e a.known.shape a.unrefused c.in-4.is))) (c.of-in-4.ensures ∙ rw c.requested.ensures)
-
-pub returns-in-5 : goal.returns-in-5
-returns-in-5 c =
-    let e = c.args.e in
-    λ t a. release_applied t e a c.in-5.is (c.release.ensures t (begun t e a (release_permitted t e a.known.shape a.unrefused c.in-5.is (a.follows c.in-5.is)))) (c.of-in-5.ensures ∙ rw c.released.ensures)
-
-pub returns-in_default : goal.returns-in_default
-returns-in_default c =
-    let e = c.args.e in
-    λ t a. absurd (no_other t e a.known.shape a.unrefused (λ k. omega arith) (λ k. omega arith) (λ k. omega arith) (λ k. omega arith) (λ k. omega arith))
-
-pub set_anew-requires : goal.set_anew-requires
-set_anew-requires c =
-    let h = c in
-    let a = h.requires.1.1 in
-    (low h.requires.1.0 h.args.e a.known.shape a.unrefused, h.requires.0.currents_size)
+pub returns : goal.returns
+returns c =
+    let t = c.args.t.now in
+    let a = c.requires in
+    let small : c.args.e.argument ≤ 255 = omega arith in
+    let wrote = c.set_slot.ensures in
+    elim c.match-kind.branch [
+      | in-Create w ↦ create_applied a wrote w.t-is w.w-is w.count-is small w.in-Create.is w.fresh.ensures (w.create.ensures t _ _ _ _ _ (create_begun a small w.in-Create.is) refl)
+      | in-Exit w ↦ exit_applied a wrote w.t-is w.w-is w.count-is w.in-Exit.is w.dead.ensures (w.exit.ensures t _ _ _ _ _ (exit_begun a w.in-Exit.is))
+      | in-Set w ↦ set_applied a wrote w.t-is w.w-is w.count-is small w.in-Set.is (rw c.slot-slot.ensures at w.anew.ensures) (w.set_anew.ensures t _ (set_begun a small w.in-Set.is) refl)
+      | in-P w ↦ request_applied a wrote w.t-is w.w-is w.count-is w.in-P.is (rw c.slot-slot.ensures at w.requested.ensures) (w.request.ensures.done t _ (request_begun a w.in-P.is))
+      | in-V w ↦ release_applied a wrote w.t-is w.w-is w.count-is w.in-V.is (rw c.slot-slot.ensures at w.released.ensures) (w.release.ensures.done t (release_begun a w.in-V.is))
+    ]

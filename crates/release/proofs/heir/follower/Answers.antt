@@ -1,21 +1,15 @@
 -- `release::heir::follower` meets its contract. Assumes nothing.
-use Prim.Native.Nat.{◌≤◌}
-use Rattle.table.specs.Table.{at}
+use mathlib.Core.Path.{◌∙◌}
 use native.Mathlib.Omega.{arith}
-use Rattle.release.proofs.heir.Found.{named_low, named_short, found}
+use Rattle.release.proofs.heir.Found.{named_low, found}
 use Rattle.release.proofs.heir.follower.Goals as goal
 
-pub bounds-lengths-r : goal.bounds-lengths-r
-bounds-lengths-r c =
-    let p = c.requires in
-    omega (arith, c.wide-r.ensures.0, named_low p.0 c.args.e p.4 p.5 c.if-e-ne-V.false)
-
-pub heir_place-requires : goal.heir_place-requires
-heir_place-requires c =
-    let p = c.requires in
-    -- the queue of the resource that is named is no longer than 32
-    let short : at c.args.lengths.now c.wide-r.result ≤ 32 = rw (c.wide-r.ensures.0, p.6) (named_short p.0 c.args.e p.4 p.5 c.if-e-ne-V.false) in
-    (omega (arith, c.wide-r.ensures.0, named_low p.0 c.args.e p.4 p.5 c.if-e-ne-V.false), omega (arith, short, c.wide.ensures.0))
+-- the resource of an accepted V is below 16
+pub returns-in_err-get : goal.returns-in_err-get
+returns-in_err-get c t waits holders owns e k z q l kind named = absurd (omega (arith, c.in_err-get.ensures.lookup.3, named_low t e k z kind))
 
 pub returns : goal.returns
-returns c t waits holders owns k z q l kind = found t c.args.e k z kind q l c.wide-r.ensures.0 c.wide.ensures.0 c.heir_place.ensures
+returns c t waits holders owns e k z q l kind named =
+    let row = c.in_ok-get-2.ensures.lookup.0 in
+    let next = c.heir_place.ensures in
+    found t e k z kind c.heir_place.result q l named c.from-r.ensures (c.from-n.ensures ∙ c.in_ok-get.ensures.lookup.3.1 0) row.2 next.waiter next.number next.highest

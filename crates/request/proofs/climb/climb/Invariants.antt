@@ -69,7 +69,7 @@ module _ (holders waits : List ℕ) (v : ℕ) where
         )
 
 abbrev pub invariant-loop-current : goal.invariant-loop-current
-invariant-loop-current l = Going l.holders l.waits l.v l.initial.current l.start l.current l.at l.n
+invariant-loop-current l = Going l.graph.holders l.graph.waits l.v l.initial.current l.start l.current l.at l.n
 
 abbrev pub decreases-loop-current : goal.decreases-loop-current
 decreases-loop-current l = 17 - l.n
