@@ -1,4 +1,4 @@
--- Document 01: the three queries. They change nothing: an answer holds numbers, and no table. Assumes nothing.
+-- The three queries. They change nothing: an answer holds numbers, and no table. Assumes nothing.
 use Rattle.std.specs.Prelude.{ℕ, cond, not, List, [], ◌∷◌, eqb, ltb, length}
 use Rattle.protocol.specs.Events.{Thread, Resource}
 use Rattle.table.specs.declared.Table.{Table}

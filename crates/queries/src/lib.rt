@@ -1,14 +1,13 @@
 // The three queries. Each tests the table, as every call does, and changes nothing. A `number` is 0, or why it is refused.
 #![tactic(auto)]
 
-ghost use Rattle.std.specs.Prelude.{◌≡◌, ◌-◌};
+ghost use Rattle.std.specs.Prelude.{◌≡◌};
+ghost use Rattle.refusals.specs.Numbers.{reason_number};
 ghost use Rattle.queries.specs.Queries.{running_answer, thread_answer, thread_refused, resource_answer, resource_refused};
 
+use refusals::Reason;
 use soundness::check::check;
 use table::Table;
-use table::numbers::numbers;
-use table::queues::wide;
-use table::running::running;
 
 // The running thread; 32 if there is none, and on a refusal.
 #[repr(C)]
@@ -21,40 +20,22 @@ pub struct RunningAnswer {
 pub fn running_of(t: Table) -> RunningAnswer
     ensures { result ≡ running_answer t }
 {
-    // By way of a name that is not lent, as in the step (docs/DECISIONS.md, "What a call costs").
-    let of_own = numbers(&t.live, &t.priority, &t.time);
-    let own = of_own;
-    let current = numbers(&t.live, &t.current_priority, &t.current_time);
-    let c = check(
-        t.clock,
-        &t.live,
-        &t.priority,
-        &t.time,
-        &t.current_priority,
-        &t.current_time,
-        &t.rows.queue,
-        &t.rows.length,
-        &t.requests,
-        &t.releases,
-        &own,
-        &current,
-    );
-    if !c.sound {
-        return RunningAnswer {
-            number: 1,
+    match check(&t) {
+        Some(w) => RunningAnswer {
+            number: 0,
+            running: w.running(),
+        },
+        None => RunningAnswer {
+            number: u8::from(Reason::UnsoundTable),
             running: Table::NOBODY,
-        };
-    }
-    RunningAnswer {
-        number: 0,
-        running: running(&c.waits, &current),
+        },
     }
 }
 
 // A thread's own priority and set time, its current precedence, the resource it waits for, 16 if none, and how often it requested and
 // released since it was created. On a refusal zeros.
 #[repr(C)]
-#[derive(Clone, Copy)]
+#[derive(Clone, Copy, Default)]
 pub struct ThreadAnswer {
     pub number: u8,
     pub priority: u8,
@@ -66,52 +47,30 @@ pub struct ThreadAnswer {
     pub releases: u16,
 }
 
-fn thread_refused(number: u8) -> ThreadAnswer
-    ensures { result ≡ thread_refused number }
-{
-    ThreadAnswer {
-        number,
-        priority: 0,
-        time: 0,
-        current_priority: 0,
-        current_time: 0,
-        waits_for: 0,
-        requests: 0,
-        releases: 0,
+impl ThreadAnswer {
+    fn refused(reason: Reason) -> ThreadAnswer
+        ensures { result ≡ thread_refused (reason_number reason) }
+    {
+        ThreadAnswer {
+            number: u8::from(reason),
+            ..ThreadAnswer::default()
+        }
     }
 }
 
-// What is stored as current precedence is the defined one, since the table is sound. The table is read after the test, so its arrays are
-// lent to the test: handed on whole, it would be copied once more (docs/DECISIONS.md, "What a call costs").
+// What is stored as current precedence is the defined one, since the table is sound.
 pub fn thread_of(t: Table, thread: u8) -> ThreadAnswer
     ensures { result ≡ thread_answer t thread }
 {
-    let of_own = numbers(&t.live, &t.priority, &t.time);
-    let own = of_own;
-    let current = numbers(&t.live, &t.current_priority, &t.current_time);
-    let c = check(
-        t.clock,
-        &t.live,
-        &t.priority,
-        &t.time,
-        &t.current_priority,
-        &t.current_time,
-        &t.rows.queue,
-        &t.rows.length,
-        &t.requests,
-        &t.releases,
-        &own,
-        &current,
-    );
-    if !c.sound {
-        return thread_refused(1);
-    }
-    let i = wide(thread);
+    let Some(w) = check(&t) else {
+        return ThreadAnswer::refused(Reason::UnsoundTable);
+    };
+    let i = usize::from(thread);
     if Table::THREADS <= i {
-        return thread_refused(3);
+        return ThreadAnswer::refused(Reason::NoSuchThread);
     }
     if t.live[i] != 1 {
-        return thread_refused(7);
+        return ThreadAnswer::refused(Reason::NotLive);
     }
     ThreadAnswer {
         number: 0,
@@ -119,7 +78,7 @@ pub fn thread_of(t: Table, thread: u8) -> ThreadAnswer
         time: t.time[i],
         current_priority: t.current_priority[i],
         current_time: t.current_time[i],
-        waits_for: c.waits[i],
+        waits_for: w.graph.waits[i],
         requests: t.requests[i],
         releases: t.releases[i],
     }
@@ -127,61 +86,38 @@ pub fn thread_of(t: Table, thread: u8) -> ThreadAnswer
 
 // A resource's holder, 32 if it is free, and the number of its waiters. On a refusal zeros.
 #[repr(C)]
-#[derive(Clone, Copy)]
+#[derive(Clone, Copy, Default)]
 pub struct ResourceAnswer {
     pub number: u8,
     pub holder: u8,
     pub waiters: u8,
 }
 
-fn resource_refused(number: u8) -> ResourceAnswer
-    ensures { result ≡ resource_refused number }
-{
-    ResourceAnswer {
-        number,
-        holder: 0,
-        waiters: 0,
+impl ResourceAnswer {
+    fn refused(reason: Reason) -> ResourceAnswer
+        ensures { result ≡ resource_refused (reason_number reason) }
+    {
+        ResourceAnswer {
+            number: u8::from(reason),
+            ..ResourceAnswer::default()
+        }
     }
 }
 
-// Of a queue of n all but the first wait.
-fn waiting(n: u8) -> u8
-    ensures { result ≡ n - 1 }
-{
-    if n == 0 { 0 } else { n - 1 }
-}
-
-// The arrays are lent to the test here too.
+// Of a queue all but the first wait.
 pub fn resource_of(t: Table, resource: u8) -> ResourceAnswer
     ensures { result ≡ resource_answer t resource }
 {
-    let of_own = numbers(&t.live, &t.priority, &t.time);
-    let own = of_own;
-    let current = numbers(&t.live, &t.current_priority, &t.current_time);
-    let c = check(
-        t.clock,
-        &t.live,
-        &t.priority,
-        &t.time,
-        &t.current_priority,
-        &t.current_time,
-        &t.rows.queue,
-        &t.rows.length,
-        &t.requests,
-        &t.releases,
-        &own,
-        &current,
-    );
-    if !c.sound {
-        return resource_refused(1);
-    }
-    let r = wide(resource);
+    let Some(w) = check(&t) else {
+        return ResourceAnswer::refused(Reason::UnsoundTable);
+    };
+    let r = usize::from(resource);
     if Table::RESOURCES <= r {
-        return resource_refused(4);
+        return ResourceAnswer::refused(Reason::Malformed);
     }
     ResourceAnswer {
         number: 0,
-        holder: c.holders[r],
-        waiters: waiting(t.rows.length[r]),
+        holder: w.graph.holders[r],
+        waiters: t.rows.length[r].saturating_sub(1),
     }
 }

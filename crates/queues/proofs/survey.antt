@@ -1,4 +1,4 @@
 -- What each part of the survey learns.
-mod Sums
+mod Cut
 mod Standing
 pub mod Turns

@@ -1,13 +1,8 @@
 -- The queues, place by place. Assumes nothing.
-use Rattle.std.specs.Prelude.{ℕ, zero, suc, ◌+◌, ◌≤◌, ◌<◌, ◌≡◌, ◌≢◌, List}
+use Rattle.std.specs.Prelude.{ℕ, ◌+◌, ◌≤◌, ◌<◌, ◌≡◌, ◌≢◌, ◌⊎◌, List, slice_set}
 use Rattle.protocol.specs.Sets.{Number}
 use Rattle.table.specs.Table.{at}
 use Rattle.table.specs.Code.Places.{entry}
-
--- the sum of the first n places of the queue of r
-unfoldable pub places_sum : List ℕ → ℕ → ℕ → ℕ
-places_sum queue r zero = 0
-places_sum queue r (suc n) = places_sum queue r n + entry queue r n
 
 -- x stands among the places 1 to n - 1 of the queue of r
 abbrev pub Stands : List ℕ → ℕ → ℕ → ℕ → Type 0
@@ -28,6 +23,10 @@ pub record RowRight (queue live before : List ℕ) (r n : ℕ) : Type 0 where
 pub record Noted (queue before after : List ℕ) (r n : ℕ) : Type 0 where
   pub noted : (x : ℕ) → Stands queue r n x → at after x ≡ r
   pub kept : (x : ℕ) → ¬ Stands queue r n x → at after x ≡ at before x
+
+-- `after` is `before` with the first of the n entries of the queue of r as its holder, where it has any
+abbrev pub Headed : List ℕ → List ℕ → List ℕ → ℕ → ℕ → Type 0
+Headed queue before after r n = ((0 < n) × (after ≡ slice_set before r (entry queue r 0))) ⊎ ((n ≤ 0) × (after ≡ before))
 
 -- `after` is `before` with 1 more at those who are among the first n entries of the queue of r
 pub record Counted (queue before after : List ℕ) (r n : ℕ) : Type 0 where

@@ -1,126 +1,97 @@
 // Whether the queues are right: lengths, entries, spare places, and that nobody waits in two. And what they say: who waits and who holds,
 // and in how many each thread stands.
-ghost use Rattle.std.specs.Prelude.{◌≡◌, true, ◌↔◌, ℕ, ◌<◌, ◌≤◌, length, replicate};
+ghost use Rattle.std.specs.Prelude.{◌≡◌, true, ◌↔◌, ℕ, ◌<◌, ◌≤◌, length, MatchOption};
 ghost use Rattle.table.specs.Table.{at};
 ghost use Rattle.table.specs.Code.Places.{entry};
-ghost use Rattle.queues.specs.Queues.{places_sum, RowRight, Noted, Counted, RowsRight, Surveyed};
+ghost use Rattle.queues.specs.Queues.{RowRight, Noted, Counted, Headed, RowsRight, Surveyed};
 
-use table::Table;
-use table::queues::{longest, wide};
+use table::queues::longest;
+use table::workings::Graph;
+use table::{Rows, Table};
 
 // Whether thread x is live; false if there is no such thread.
-fn is_live(live: &[u8], x: u8) -> bool
+fn is_live(live: &[u8; Table::THREADS], x: u8) -> bool
     ensures { (result ≡ true) ↔ (at live.now x ≡ 1) }
 {
-    let i = x as usize;
-    if live.len() <= i {
-        return false;
-    }
-    live[i] == 1
+    live.get(usize::from(x)) == Some(&1)
 }
 
-// The sum of the first n places of the queue of r.
-fn sum(queue: &[u8; Table::PLACES], r: usize, n: usize) -> u32
-    requires { (r < 16) × (n ≤ 32) }
-    ensures { result ≡ places_sum queue.now r n }
-{
-    let start = r * Table::THREADS;
-    let mut s: u32 = 0;
-    let mut i = 0;
-    while i < n {
-        s += wide(queue[start + i]) as u32;
-        i += 1;
-    }
-    s
-}
-
-// Whether the places of r from n on are zero: a sum is 0 exactly when all are, and sums vectorise.
-fn spare_zero(queue: &[u8; Table::PLACES], r: usize, n: usize) -> bool
-    requires { (r < 16) × (n ≤ 32) }
+// Whether the places of r from n on are zero. All 32 are looked at, so that the loop compares many at a time.
+fn spare_zero(queue: &[u8; Table::PLACES], r: u8, n: u8) -> bool
+    requires { r < 16 }
     ensures { (result ≡ true) ↔ ((i : ℕ) → n ≤ i → i < 32 → entry queue.now r i ≡ 0) }
 {
-    sum(queue, r, Table::THREADS) == sum(queue, r, n)
+    let start = usize::from(r) * Table::THREADS;
+    let mut zero = true;
+    for i in 0..Table::NOBODY {
+        zero &= (i < n) | (queue[start + usize::from(i)] == 0);
+    }
+    zero
 }
 
-// Whether the n entries of r are live and differ and its waiters wait nowhere else so far; notes r for each of these in waits, and one queue
-// more for each entry in standing.
-fn row_right<'a>(
-    queue: &'a [u8; Table::PLACES],
-    live: &'a [u8],
-    r: usize,
-    n: usize,
-    waits: &mut [u8],
-    standing: &mut [u16],
-) -> bool
-    requires { (length live.now ≡ 32) × (length waits.old ≡ 32) × (length standing.old ≡ 32) × (r < 16) × (n ≤ 32) × ((x : ℕ) → at standing.old x ≤ r) }
-    ensures { (result ≡ true → RowRight queue.now live.now waits.old r n × Noted queue.now waits.old waits.new r n × Counted queue.now standing.old standing.new r n)
-        × (RowRight queue.now live.now waits.old r n → result ≡ true) }
-{
-    if n == 0 {
-        return true;
-    }
-    let start = r * Table::THREADS;
-    let head = queue[start];
-    if !is_live(live, head) {
-        return false;
-    }
-    standing[wide(head)] += 1;
-    let mut i = 1;
-    while i < n {
-        let x = queue[start + i];
-        let twice = x == head;
-        if twice {
-            return false;
-        }
-        if !is_live(live, x) {
-            return false;
-        }
-        let at = wide(x);
-        if waits[at] != Table::NOTHING {
-            return false;
-        }
-        waits[at] = r as u8;
-        standing[at] += 1;
-        i += 1;
-    }
-    true
+// What the queues say, and in how many of them each thread stands.
+#[derive(Clone, Copy)]
+pub struct Survey {
+    pub graph: Graph,
+    pub standing: [u16; Table::THREADS],
 }
 
-// Whether the queues are right. Where they are, waits has what each thread waits for (16: nothing), holders who holds each resource (32:
-// nobody), and standing in how many queues each thread stands. They are lent, with nothing noted yet, and so are filled where the caller
-// keeps them (docs/DECISIONS.md, "What a call costs").
-pub fn survey<'a>(
-    queue: &'a [u8; Table::PLACES],
-    lengths: &'a [u8; Table::RESOURCES],
-    live: &'a [u8; Table::THREADS],
-    waits: &mut [u8; Table::THREADS],
-    holders: &mut [u8; Table::RESOURCES],
-    standing: &mut [u16; Table::THREADS],
-) -> bool
-    requires { (waits.old ≡ replicate 32 16) × (holders.old ≡ replicate 16 32) × (standing.old ≡ replicate 32 0) }
-    ensures { (result ≡ true → RowsRight queue.now lengths.now live.now 16 × Surveyed queue.now lengths.now 16 waits.new holders.new standing.new)
-        × (RowsRight queue.now lengths.now live.now 16 → result ≡ true) }
-{
-    // A queue has 32 places.
-    if Table::THREADS < wide(longest(lengths)) {
-        return false;
-    }
-    // As a slice, which tells the proof how long it is.
-    let all = &live[..];
-    let mut r = 0;
-    while r < Table::RESOURCES {
-        let n = wide(lengths[r]);
-        if !spare_zero(queue, r, n) {
+impl Survey {
+    // Whether the n entries of r are live and differ and its waiters wait nowhere else so far; notes who holds r, r for each that waits for
+    // it, and one queue more for each entry.
+    fn note_row(
+        &mut self,
+        queue: &[u8; Table::PLACES],
+        live: &[u8; Table::THREADS],
+        r: u8,
+        n: u8,
+    ) -> bool
+        requires { (r < 16) × (n ≤ 32) × ((x : ℕ) → at self.old.standing x ≤ r) }
+        ensures noted { result ≡ true → RowRight queue.now live.now self.old.graph.waits r n × Noted queue.now self.old.graph.waits self.new.graph.waits r n × Headed queue.now self.old.graph.holders self.new.graph.holders r n × Counted queue.now self.old.standing self.new.standing r n }
+        ensures right { RowRight queue.now live.now self.old.graph.waits r n → result ≡ true }
+    {
+        let start = usize::from(r) * Table::THREADS;
+        let entries = &queue[start..start + usize::from(n)];
+        let Some((head, waiters)) = entries.split_first() else {
+            return true;
+        };
+        if !is_live(live, *head) {
             return false;
         }
-        if !row_right(queue, all, r, n, waits, standing) {
-            return false;
+        self.graph.holders[usize::from(r)] = *head;
+        self.standing[usize::from(*head)] += 1;
+        for x in waiters {
+            let twice = *x == *head;
+            let at = usize::from(*x);
+            if twice || !is_live(live, *x) || self.graph.waits[at] != Table::NOTHING {
+                return false;
+            }
+            self.graph.waits[at] = r;
+            self.standing[at] += 1;
         }
-        let has_holder = 0 < n;
-        if has_holder {
-            holders[r] = queue[r * Table::THREADS];
-        }
-        r += 1;
+        true
     }
-    true
+
+    // What the queues say, where they are right. That the arrays have their sizes is said for those who reach them through a whole table.
+    pub fn of(rows: &Rows, live: &[u8; Table::THREADS]) -> Option<Survey>
+        ensures sizes { (length rows.now.queue ≡ 512) × (length rows.now.length ≡ 16) }
+        ensures found { MatchOption result (¬ RowsRight rows.now.queue rows.now.length live.now 16) (λ s. RowsRight rows.now.queue rows.now.length live.now 16 × Surveyed rows.now.queue rows.now.length 16 s.graph.waits s.graph.holders s.standing) }
+    {
+        // A queue has 32 places.
+        let too_long = Table::NOBODY < longest(&rows.length);
+        if too_long {
+            return None;
+        }
+        let mut found = Survey {
+            graph: Graph::empty(),
+            standing: [0; Table::THREADS],
+        };
+        for r in 0..Table::NOTHING {
+            let n = rows.length[usize::from(r)];
+            if !spare_zero(&rows.queue, r, n) || !found.note_row(&rows.queue, live, r, n) {
+                return None;
+            }
+        }
+        Some(found)
+    }
 }

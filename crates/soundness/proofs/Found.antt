@@ -1,23 +1,18 @@
--- The answer of the test for soundness is what document 01's definition computes. Assumes nothing.
-use Prim.Native.Nat.{ℕ}
-use mathlib.Core.Path.{◌≡◌, sym, ◌∙◌}
+-- What the test finds is what the definition of a sound table computes. Assumes nothing.
+use mathlib.Core.Path.{◌≡◌, sym}
+use mathlib.Core.Bool.{true, false, false≢true}
 use mathlib.Core.List.{List}
-use mathlib.Core.Bool.{true, false, not}
-use borrow.Author.Tests.{not-true, not-false}
+use Prim.Native.Nat.{ℕ}
 use Rattle.table.specs.declared.Table.{Table}
+use Rattle.table.specs.Sound.{Sound}
 use Rattle.table.specs.Compute.{is_sound}
+use Rattle.table.specs.Code.Shape.{Shape}
+use Rattle.table.specs.Code.Tracks.{Known}
 use Rattle.table.proofs.Tests.Reflect.{same_test}
 use Rattle.table.proofs.Tests.Decided.{tells_sound}
-use Rattle.soundness.specs.declared.check.Checked.{Checked}
-use Rattle.soundness.specs.Checked.{CheckedRight}
 
-module _ (t : Table) {owns currents : List ℕ} {c : Checked} (k : CheckedRight t owns currents c) where
-  pub sound_is : c.sound ≡ is_sound t
-  sound_is = same_test ((λ e. (k.known e).sound), k.passes) (tells_sound t k.shape)
+pub found_sound : (t : Table) {waits holders owns currents : List ℕ} → Known t waits holders owns currents → is_sound t ≡ true
+found_sound t k = (tells_sound t k.shape).1 k.sound
 
-  -- the same, for the branches of `if !c.sound`
-  pub found_unsound : not c.sound ≡ true → is_sound t ≡ false
-  found_unsound n = sym sound_is ∙ not-true c.sound n
-
-  pub found_sound : not c.sound ≡ false → is_sound t ≡ true
-  found_sound n = sym sound_is ∙ not-false c.sound n
+pub found_unsound : (t : Table) → Shape t → ¬ Sound t → is_sound t ≡ false
+found_unsound t shape n = sym (same_test ((λ e. absurd (false≢true e)), λ s. absurd (n s)) (tells_sound t shape))

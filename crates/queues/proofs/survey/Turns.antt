@@ -1,7 +1,7 @@
 -- The queues' entries: what `row_right` learns of one queue in a turn, and `survey` of all. Assumes nothing.
 use Prim.Native.Nat.{ℕ, zero, suc, ◌+◌, ◌≤◌, ◌<◌}
 use mathlib.Core.Path.{◌≡◌, refl, sym, ap, ◌∙◌}
-use mathlib.Core.Logic.{◌≢◌, ◌⊎◌, inl, inr}
+use mathlib.Core.Logic.{◌≢◌, inl, inr}
 use mathlib.Core.List.{List}
 use native.Mathlib.Omega.{arith}
 use borrow.Author.Count.{below_more}
@@ -12,7 +12,7 @@ use Rattle.protocol.proofs.Counting.{number_none}
 use Rattle.table.specs.Table.{at}
 use Rattle.table.specs.Code.Places.{entry, Lengths}
 use Rattle.table.proofs.Arrays.Bounds.{within}
-use Rattle.queues.specs.Queues.{Stands, Entered, RowRight, Noted, Counted, RowsRight, Surveyed}
+use Rattle.queues.specs.Queues.{Stands, Entered, RowRight, Noted, Headed, Counted, RowsRight, Surveyed}
 use Rattle.queues.proofs.survey.Standing.{stands_more}
 
 -- a queue of one, or none, is right where its head is live
@@ -140,9 +140,9 @@ module _ {queue lengths live waits holders standing : List ℕ} {r n : ℕ} (e :
       stands = λ x h. stands_more counted lengths e x (known.stands x h);
     }
 
-    -- what a turn leaves in `holders`
+    -- what a turn leaves
     pub rows_turn : RowsRight queue lengths live r → n ≤ 32 → ((i : ℕ) → n ≤ i → i < 32 → entry queue r i ≡ 0) → length holders ≡ 16 → {left : List ℕ} →
-        ((0 < n) × (left ≡ set holders r (entry queue r 0))) ⊎ ((n ≤ 0) × (left ≡ holders)) → RowsRight queue lengths live (r + 1) × (length left ≡ 16) × Surveyed queue lengths (r + 1) after left counts
+        Headed queue holders left r n → RowsRight queue lengths live (r + 1) × (length left ≡ 16) × Surveyed queue lengths (r + 1) after left counts
     rows_turn rows l z size (inl (some, f)) = (rows_more rows l z, rw (f, length-set) size, rw f (held_more size some))
     rows_turn rows l z size (inr (none, f)) = (rows_more rows l z, rw f size, rw f (unheld_more none))
 

@@ -1,12 +1,12 @@
--- `slots::right::slots_right` meets its contract. The loop's invariant: `Wrongs`, what the count tells of the slots passed. Assumes nothing.
-use Prim.Native.Nat.{◌-◌}
+-- `slots::right::slots_right` meets its contract. The loop's invariant: whether the slots passed are right. Assumes nothing.
+use Prim.Native.Nat.{ℕ, ◌<◌}
+use mathlib.Core.Path.{◌≡◌}
+use mathlib.Core.Bool.{true}
+use mathlib.Core.Logic.{◌↔◌}
 use Rattle.table.specs.Table.{at}
 use Rattle.slots.specs.Slots.{SlotRight}
-use Rattle.slots.proofs.Wrongs.{Wrongs}
 use Rattle.slots.proofs.right.slots_right.Given as goal
 
 abbrev pub invariant-loop-i : goal.invariant-loop-i
-invariant-loop-i l = Wrongs (λ k. SlotRight l.clock (at l.live k) (at l.priority k) (at l.time k) (at l.current_priority k) (at l.current_time k) (at l.requests k)) l.i l.wrong
-
-abbrev pub decreases-loop-i : goal.decreases-loop-i
-decreases-loop-i l = 32 - l.i
+invariant-loop-i l = let t = l.t in
+    (l.right ≡ true) ↔ ((th : ℕ) → th < l.i → SlotRight t.clock (at t.live th) (at t.priority th) (at t.time th) (at t.current_priority th) (at t.current_time th) (at t.requests th))

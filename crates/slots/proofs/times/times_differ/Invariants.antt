@@ -1,6 +1,6 @@
 -- `slots::times::times_differ` meets its contract. The loop's invariant: the live threads passed have different set times, and the mark of each is set.
 -- The measure is the number of threads left. Assumes nothing.
-use Prim.Native.Nat.{ℕ, ◌%◌, ◌≤◌, ◌<◌, ◌-◌}
+use Prim.Native.Nat.{ℕ, ◌%◌, ◌<◌}
 use mathlib.Core.Path.{◌≡◌}
 use mathlib.Core.Bool.{Bool, true, false}
 use mathlib.Core.List.{List}
@@ -19,9 +19,6 @@ IsSet marks t = get_or marks (t % 64) false ≡ true
 
 abbrev pub invariant-loop-i : goal.invariant-loop-i
 invariant-loop-i l =
-    (l.i ≤ 32) × (length l.marks ≡ 64)
-    × ((x : ℕ) → x < l.i → at l.live x ≡ 1 → New l.live l.time x)
-    × ((x : ℕ) → x < l.i → at l.live x ≡ 1 → IsSet l.marks (at l.time x))
-
-abbrev pub decreases-loop-i : goal.decreases-loop-i
-decreases-loop-i l = 32 - l.i
+    (length l.marks ≡ 64)
+    × ((x : ℕ) → x < l.i → at l.t.live x ≡ 1 → New l.t.live l.t.time x)
+    × ((x : ℕ) → x < l.i → at l.t.live x ≡ 1 → IsSet l.marks (at l.t.time x))

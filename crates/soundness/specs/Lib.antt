@@ -1,2 +1,0 @@
--- What the test for soundness hands on.
-pub mod Checked
