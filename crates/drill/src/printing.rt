@@ -55,6 +55,7 @@ fn print_start<P: Print>(rt: &P, bench: &mut Bench, input: &[u8]) -> Result<usiz
 pub fn print_part<P: Print>(rt: &P, bench: &mut Bench, input: &[u8]) -> Result<(), Failure<'static>>
     ensures { OnOk result (bench.new ≡ after bench.old input.now) }
 {
+    // No `for`: a turn goes on by as much as there was room for, so that a count would say no more.
     let mut used = 0;
     while used < input.len() {
         used += print_start(rt, bench, &input[used..])?;

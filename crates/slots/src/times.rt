@@ -4,12 +4,18 @@ ghost use Rattle.slots.specs.Slots.{TimesDiffer, TimeTaken};
 
 use table::Table;
 
-// Whether another live thread has the set time of thread i.
-fn time_taken(t: &Table, i: usize) -> bool
+// Whether another live thread has the set time of thread i. All are looked at, many at a time, by `&` and not `&&`.
+fn time_taken(t: &Table, i: u8) -> bool
     requires { i < 32 }
     ensures { (result ≡ true) ↔ TimeTaken t.now.live t.now.time 32 i }
 {
-    (0..Table::THREADS).any(|j| j != i && t.live[j] == 1 && t.time[j] == t.time[i])
+    let time = t.time[usize::from(i)];
+    let mut taken = false;
+    for j in 0..Table::NOBODY {
+        let at = usize::from(j);
+        taken |= (j != i) & (t.live[at] == 1) & (t.time[at] == time);
+    }
+    taken
 }
 
 // How many marks there are for times. Enough that of 32 threads few share one, and little to clear.
@@ -21,9 +27,10 @@ pub fn times_differ(t: &Table) -> bool
     ensures { (result ≡ true) ↔ TimesDiffer t.now.live t.now.time }
 {
     let mut marks = [false; MARKS];
-    for i in 0..Table::THREADS {
-        if t.live[i] == 1 {
-            let mark = usize::from(t.time[i]) % MARKS;
+    for i in 0..Table::NOBODY {
+        let at = usize::from(i);
+        if t.live[at] == 1 {
+            let mark = usize::from(t.time[at]) % MARKS;
             if marks[mark] && time_taken(t, i) {
                 return false;
             }
