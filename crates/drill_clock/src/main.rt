@@ -12,28 +12,26 @@ use streams::programs::end;
 // The accepted events that come before the edge, after the first Create.
 const SETS: u32 = 65533;
 
-// A record whose fourth byte is 0.
-fn record(kind: u8, thread: u8, argument: u8) -> Record {
-    Record {
-        kind,
-        thread,
-        argument,
+// The last event that is accepted, and then each kind at 65,535: it gives 5, unless 2, 3 or 4 catches it.
+fn edge() -> [Record; 9] {
+    let no_kind = Record {
+        kind: 6,
+        thread: 0,
+        argument: 0,
         zero: 0,
-    }
+    };
+    [
+        Record::new(Kind::Create, 1, 9),
+        Record::new(Kind::Create, 2, 9),
+        Record::new(Kind::Exit, 0, 0),
+        Record::new(Kind::Set, 0, 9),
+        Record::new(Kind::P, 0, 0),
+        Record::new(Kind::V, 0, 0),
+        no_kind,
+        Record::new(Kind::Create, 32, 9),
+        Record::new(Kind::P, 0, 16),
+    ]
 }
-
-// The last event that is accepted, and then each kind at 65,535: it gives 5, unless 2, 3 or 4 catches it. Kind, thread and argument of each.
-const EDGE: [(u8, u8, u8); 9] = [
-    (Kind::Create as u8, 1, 9),
-    (Kind::Create as u8, 2, 9),
-    (Kind::Exit as u8, 0, 0),
-    (Kind::Set as u8, 0, 9),
-    (Kind::P as u8, 0, 0),
-    (Kind::V as u8, 0, 0),
-    (6, 0, 0),
-    (Kind::Create as u8, 32, 9),
-    (Kind::P as u8, 0, 16),
-];
 
 // Thread 0 is created and sets its priority over and over, and the lines at the edge are printed.
 fn try_edge<P: Print>(rt: &P) -> Result<u64, Failure<'static>> {
@@ -43,9 +41,9 @@ fn try_edge<P: Print>(rt: &P) -> Result<u64, Failure<'static>> {
         bench.answer(Record::new(Kind::Set, 0, 1));
     }
     print(rt, &header(), 0)?;
-    for (kind, thread, argument) in EDGE {
+    for e in edge() {
         let before = bench.number;
-        let line = bench.answer(record(kind, thread, argument));
+        let line = bench.answer(e);
         print(rt, &line, before)?;
     }
     Ok(bench.number)
