@@ -1,4 +1,5 @@
 -- What each part of the survey learns.
 mod Cut
 mod Standing
+mod Sums
 pub mod Turns

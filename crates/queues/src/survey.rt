@@ -1,6 +1,6 @@
 // Whether the queues are right: lengths, entries, spare places, and that nobody waits in two. And what they say: who waits and who holds,
 // and in how many each thread stands.
-ghost use Rattle.std.specs.Prelude.{◌≡◌, true, ◌↔◌, ℕ, ◌<◌, ◌≤◌, length, MatchOption};
+ghost use Rattle.std.specs.Prelude.{◌≡◌, true, ◌↔◌, ℕ, ◌<◌, ◌≤◌, length, sum, MatchOption};
 ghost use Rattle.table.specs.Table.{at};
 ghost use Rattle.table.specs.Code.Places.{entry};
 ghost use Rattle.queues.specs.Queues.{RowRight, Noted, Counted, Headed, RowsRight, Surveyed};
@@ -16,17 +16,22 @@ fn is_live(live: &[u8; Table::THREADS], x: u8) -> bool
     live.get(usize::from(x)) == Some(&1)
 }
 
-// Whether the places of r from n on are zero. All 32 are looked at, so that the loop compares many at a time.
+// The sum of the places of a queue.
+fn total(places: &[u8]) -> u32
+    requires { length places.now ≤ 32 }
+    ensures { result ≡ sum places.now }
+{
+    places.iter().map(|x| u32::from(*x)).sum()
+}
+
+// Whether the places of r from n on are zero: just then they add nothing to the sum of those before, and sums vectorise.
 fn spare_zero(queue: &[u8; Table::PLACES], r: u8, n: u8) -> bool
-    requires { r < 16 }
+    requires { (r < 16) × (n ≤ 32) }
     ensures { (result ≡ true) ↔ ((i : ℕ) → n ≤ i → i < 32 → entry queue.now r i ≡ 0) }
 {
     let start = usize::from(r) * Table::THREADS;
-    let mut zero = true;
-    for i in 0..Table::NOBODY {
-        zero &= (i < n) | (queue[start + usize::from(i)] == 0);
-    }
-    zero
+    let row = &queue[start..start + Table::THREADS];
+    total(row) == total(&row[..usize::from(n)])
 }
 
 // What the queues say, and in how many of them each thread stands.

@@ -21,6 +21,9 @@ short lengths r n m longest l h e = omega (arith, longest.bound (at lengths n) (
 pub loop-r-init : goal.loop-r-init
 loop-r-init c = rw c.empty.ensures (record { holders_size = refl; few = λ x. omega (arith, zeros 32 x); right = rows_none; known = surveyed_none })
 
+pub spare_zero-requires : goal.spare_zero-requires
+spare_zero-requires c = (c.loop-r-test.true, short _ _ _ _ c.longest-too_long.ensures c.if-too_long.false c.loop-r-test.true c.from.ensures)
+
 pub note_row-requires : goal.note_row-requires
 note_row-requires c = (c.loop-r-test.true, short _ _ _ _ c.longest-too_long.ensures c.if-too_long.false c.loop-r-test.true c.from.ensures, c.loop-r.invariant.few)
 
