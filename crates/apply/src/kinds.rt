@@ -1,4 +1,4 @@
-// An accepted event, by its kind. No other function asks for the kind.
+// An accepted event, by its kind: what each kind changes is asked for here alone.
 ghost use Rattle.std.specs.Prelude.{◌≡◌};
 ghost use Rattle.release.specs.Heir.{next_at};
 ghost use Rattle.apply.specs.Accepted.{Accepted, Applied};

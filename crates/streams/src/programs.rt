@@ -16,20 +16,19 @@ fn keep_output<F: Files>(rt: &F) -> io::Result<()> {
     }
 }
 
-// Ends standard output after so many records: some file systems say only then that they could not keep what was written.
-pub fn close_output<F: Files>(rt: &F, records: u64) -> Result<(), Failure<'static>> {
-    keep_output(rt).map_err(|error| Failure::of_output(records, error))
+// Ends standard output after so many records: some file systems say only then that they could not keep what was written. Then it is said on
+// standard error.
+pub fn close_output<R: Files + Eprint>(rt: &R, records: u64) {
+    if let Err(error) = keep_output(rt) {
+        let _ = rt.eprintln(Failure::of_output(records, error));
+    }
 }
 
 // Ends a program: where its work went well, after so many records, standard output is closed. What failed is said on standard error. The programs have no
 // exit status of their own: after that line one comes to its end, and ./run, which sees the line, ends with a status that is not 0.
 pub fn end<R: Files + Eprint, E: Display + Drop>(rt: &R, work: Result<u64, E>) {
     match work {
-        Ok(records) => {
-            if let Err(failure) = close_output(rt, records) {
-                let _ = rt.eprintln(failure);
-            }
-        }
+        Ok(records) => close_output(rt, records),
         Err(failure) => {
             let _ = rt.eprintln(failure);
         }
