@@ -347,9 +347,8 @@ comes last, since only the check tells that a byte has changed.
 
 `locktable_replay` on a log of one full block, 125 records that are accepted from the empty table on: the whole call, a
 record's share, and the same records by 125 calls of the step. A log of n records takes n steps and one pass over each
-of its blocks. Besides, ours hands the table from step to step by value, which C does not: most of what is left. The C
-versions make the same steps, each with its test whether the table is sound. A block that is refused as a whole costs
-the pass alone.
+of its blocks. The C versions make the same steps, each with its test whether the table is sound. A block that is
+refused as a whole costs the pass alone.
 
 {replays}
 ## The terminal

@@ -1,5 +1,5 @@
 // The local law: the highest of a thread's own number and its direct waiters' numbers.
-ghost use Rattle.std.specs.Prelude.{◌≡◌, true, ◌↔◌, ℕ, ◌<◌, ◌≤◌};
+ghost use Rattle.std.specs.Prelude.{◌≡◌, ℕ, ◌<◌, ◌≤◌};
 ghost use Rattle.protocol.specs.Sets.{only, ◌∪◌, Max};
 ghost use Rattle.table.specs.Table.{at};
 ghost use Rattle.chains.specs.Law.{WaitersNumbers, entries_of, Compared};
@@ -68,12 +68,4 @@ pub fn afresh<'a>(rows: &'a Rows, w: &'a Workings, own: u32, t: u8) -> u32
         }
     }
     best
-}
-
-// Whether two arrays have the same numbers. All are compared, whatever was found before: that vectorises (docs/DECISIONS.md, "What a call
-// costs").
-pub fn same<'a>(a: &'a [u32; Table::THREADS], b: &'a [u32; Table::THREADS]) -> bool
-    ensures { (result ≡ true) ↔ ((t : ℕ) → t < 32 → at a.now t ≡ at b.now t) }
-{
-    a == b
 }

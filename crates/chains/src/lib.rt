@@ -3,6 +3,4 @@
 
 pub mod law;
 pub mod marks;
-pub mod old_law;
-pub mod old_ways;
 pub mod ways;

@@ -8,6 +8,7 @@ use table::workings::Graph;
 
 // The way from t: `way` with all threads marked that are on it, up to the first that is seen or waits for nothing. 0, which marks nobody,
 // if the steps run out or there is no such thread or resource.
+// A number and no `Option`, which is no plainer: whoever asks only who is on the way would have to open it first.
 #[cycle(from_resource_from_thread)]
 pub fn from_thread(graph: &Graph, seen: u32, way: u32, t: u8, steps: u32) -> u32
     ensures { result ≡ thread_way steps graph.now.waits graph.now.holders seen way t }

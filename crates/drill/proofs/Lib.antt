@@ -1,5 +1,5 @@
 -- Laws of the drill, from the bottom up.
-pub mod Feeding
+pub mod Next
 pub mod Parts
 pub mod Whole
 pub mod Groups

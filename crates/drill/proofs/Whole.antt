@@ -7,11 +7,15 @@ use mathlib.Core.List.{List, [], ◌∷◌, ◌++◌, append_assoc}
 use native.Mathlib.Omega.{arith}
 use borrow.Author.Tests.{ne_eqb}
 use lib.Dec.{eqb, ltb}
+use Rattle.std.specs.Prelude.{Option, None, Some}
+use Rattle.std.specs.Option.{option_map}
+use Rattle.refusals.specs.declared.Record.{Record}
+use Rattle.locks.specs.Answers.{answer_of}
 use Rattle.locks.specs.declared.Done.{Done}
 use Rattle.listing.specs.Text.{digits, decimal, dash_or, bytes, space, newline}
 use Rattle.drill.specs.declared.Bench.{Bench}
 use Rattle.drill.specs.Drill.{next, answer_line}
-use Rattle.drill.specs.Bytes.{bench, done, answered, fed, said, after, out}
+use Rattle.drill.specs.Bytes.{bench, held, completed, line_of, after_any, fed, said, bytes_of, after, out}
 use Rattle.drill.specs.Parts.{counted, last_whole}
 
 -- xs has no newline, so that it completes no line
@@ -74,16 +78,13 @@ a_line m n d ys =
     over m newline ys (both (both ran no_space) (no_number a.count)) (the_newline m ys)
 
 -- one byte of the input: it completes a line just when it completes a record
-a_byte : (s : Bench) (b : ℕ) (ys : List ℕ) → last_whole s.number (said s b ++ ys) ≡ last_whole (fed s b).number ys
+a_byte : (s : Bench) (b : ℕ) (ys : List ℕ) → last_whole s.number (bytes_of (said s b) ++ ys) ≡ last_whole (fed s b).number ys
 unfolding said fed
-a_byte s b ys = go (eqb s.held 0) (eqb s.held 1) (eqb s.held 2)
+a_byte s b ys = go (completed s.pending b)
   where
-    go : (x y z : Bool) → last_whole s.number (cond x [] (cond y [] (cond z [] (answer_line (next s.number) (done s b)))) ++ ys)
-        ≡ last_whole (cond x (bench s.table s.number 1 b 0 0) (cond y (bench s.table s.number 2 s.kind b 0) (cond z (bench s.table s.number 3 s.kind s.thread b) (answered s b)))).number ys
-    go true y z = refl
-    go false true z = refl
-    go false false true = refl
-    go false false false = a_line s.number (next s.number) (done s b) ys
+    go : (e : Option Record) → last_whole s.number (bytes_of (option_map (line_of s) e) ++ ys) ≡ last_whole (after_any (bench s.table s.number (held s.pending b)) e).number ys
+    go None = refl
+    go (Some e) = a_line s.number (next s.number) (answer_of s.table e) ys
 
 -- The lines of an input are whole up to the last record that it completes.
 pub all_whole : (s : Bench) (input : List ℕ) → last_whole s.number (out s input) ≡ (after s input).number

@@ -1,4 +1,4 @@
--- Document 01, "The bench program": the lines that the records of an input give. Assumes nothing.
+-- The bench program: the lines that the records of an input give. Assumes nothing.
 use Rattle.std.specs.Prelude.{ℕ, ◌+◌, cond, List, [], ◌∷◌, ◌++◌, ltb}
 use Rattle.table.specs.declared.Table.{Table}
 use Rattle.table.specs.Table.{empty}

@@ -3,11 +3,9 @@
 
 pub mod printing;
 
-ghost use Rattle.std.specs.Prelude.{◌≡◌, [], ◌+◌, ◌≤◌, length};
-ghost use Rattle.std.proofs.Math.Seq.{paste};
-ghost use Rattle.listing.specs.Writing.{Says};
-ghost use Rattle.drill.specs.Drill.{next, answer_line};
-ghost use Rattle.drill.specs.Bytes.{start, done, answered, fed, said, ending};
+ghost use Rattle.std.specs.Prelude.{◌≡◌, ◌+◌, ◌++◌, ◌≤◌, length, take};
+ghost use Rattle.drill.specs.Drill.{next};
+ghost use Rattle.drill.specs.Bytes.{start, held, completed, answered, line_of, fed, said, ending};
 ghost use Rattle.drill.specs.Parts.{Drills};
 
 use listing::{Text, line, tail_line};
@@ -15,31 +13,52 @@ use locks::Record;
 use locks::step::step;
 use table::Table;
 
-// What is carried from part to part of the input: the table, the number of the last record, and the bytes of a record that
-// are there already: `held` of them, 0 to 3. The others are zero.
+// The bytes of the next record that are there already: how far they go, and what they are.
+#[derive(Clone, Copy)]
+pub enum Pending {
+    Nothing,
+    Kind(u8),
+    Thread(u8, u8),
+    Argument(u8, u8, u8),
+}
+
+// What is carried from part to part of the input: the table, the number of the last record, and what is there of the next one.
 #[derive(Clone, Copy)]
 pub struct Bench {
     pub table: Table,
     pub number: u64,
-    pub held: u8,
-    pub kind: u8,
-    pub thread: u8,
-    pub argument: u8,
+    pub pending: Pending,
 }
 
-// The bench after a byte, and the line that the byte completed, or an empty text.
-#[derive(Clone, Copy)]
-pub struct Fed {
-    pub bench: Bench,
-    pub text: Text,
-}
-
-// The bench after a part of the input, how many bytes that part has, and how many bytes its lines have.
+// How many bytes of a part of the input went in, and how many bytes their lines have.
 #[derive(Clone, Copy)]
 pub struct Part {
-    pub bench: Bench,
     pub used: usize,
     pub len: usize,
+}
+
+impl Pending {
+    // One byte more: it is held, or it completes a record.
+    #[tactic(auto, unfolding(crate::specs::Bytes::held, crate::specs::Bytes::completed))]
+    pub fn push(&mut self, b: u8) -> Option<Record>
+        ensures { (self.new ≡ held self.old b) × (result ≡ completed self.old b) }
+    {
+        match *self {
+            Pending::Nothing => *self = Pending::Kind(b),
+            Pending::Kind(kind) => *self = Pending::Thread(kind, b),
+            Pending::Thread(kind, thread) => *self = Pending::Argument(kind, thread, b),
+            Pending::Argument(kind, thread, argument) => {
+                *self = Pending::Nothing;
+                return Some(Record {
+                    kind,
+                    thread,
+                    argument,
+                    zero: b,
+                });
+            }
+        }
+        None
+    }
 }
 
 impl Bench {
@@ -47,151 +66,73 @@ impl Bench {
     pub fn start() -> Bench
         ensures { result ≡ start }
     {
-        let table = Table::empty();
         Bench {
-            table: table,
+            table: Table::empty(),
             number: 0,
-            held: 0,
-            kind: 0,
-            thread: 0,
-            argument: 0,
+            pending: Pending::Nothing,
         }
     }
 
-    // The line that ends the listing, or an empty text where no byte is left over.
-    pub fn ending(self) -> Text
-        ensures { Says result (ending self) }
+    // A record: it is carried out, and its answer is a line. Record numbers stop at the greatest u64.
+    #[tactic(auto, using(crate::proofs::Next::saturated), unfolding(crate::specs::Drill::answer_line))]
+    pub fn answer(&mut self, e: Record) -> Text
+        ensures { (self.new ≡ answered self.old e) × (result ≡ line_of self.old e) }
     {
-        if self.held == 0 {
-            return nothing();
+        let done = step(self.table, e);
+        self.table = done.table;
+        self.number = self.number.saturating_add(1);
+        let said = done.answer;
+        line(self.number, said.number, said.running, said.count)
+    }
+
+    // One byte more, and the line of the record that it completes.
+    #[tactic(auto, unfolding(crate::specs::Bytes::fed, crate::specs::Bytes::said))]
+    pub fn feed(&mut self, b: u8) -> Option<Text>
+        ensures { (self.new ≡ fed self.old b) × (result ≡ said self.old b) }
+    {
+        let record = self.pending.push(b)?;
+        Some(self.answer(record))
+    }
+
+    // The line that ends the listing, where bytes are left over.
+    #[tactic(auto, unfolding(crate::specs::Bytes::ending))]
+    pub fn ending(&self) -> Option<Text>
+        ensures { result ≡ ending self.now }
+    {
+        match self.pending {
+            Pending::Nothing => None,
+            Pending::Kind(..) => Some(tail_line(1)),
+            Pending::Thread(..) => Some(tail_line(2)),
+            Pending::Argument(..) => Some(tail_line(3)),
         }
-        tail_line(self.held)
     }
-}
 
-// The text of no bytes.
-pub fn nothing() -> Text
-    ensures { Says result [] }
-{
-    Text {
-        bytes: [0; Text::ROOM],
-        len: 0,
-    }
-}
-
-// Record numbers stop at the greatest u64.
-fn next(n: u64) -> u64
-    ensures { result ≡ next n }
-{
-    if n < u64::MAX {
-        return n + 1;
-    }
-    n
-}
-
-// The fourth byte of a record: the record is carried out, and its answer is a line.
-fn answer(s: Bench, b: u8) -> Fed
-    ensures { (result.bench ≡ answered s b) × Says result.text (answer_line (next s.number) (done s b)) }
-{
-    let table = s.table;
-    let done = step(
-        table,
-        Record {
-            kind: s.kind,
-            thread: s.thread,
-            argument: s.argument,
-            zero: b,
-        },
-    );
-    let number = next(s.number);
-    let said = done.answer;
-    let text = line(number, said.number, said.running, said.count);
-    let after = done.table;
-    Fed {
-        bench: Bench {
-            table: after,
-            number: number,
-            held: 0,
-            kind: 0,
-            thread: 0,
-            argument: 0,
-        },
-        text: text,
-    }
-}
-
-// No record is complete, so there is no line.
-fn hold(s: Bench) -> Fed
-    ensures { (result.bench ≡ s) × Says result.text [] }
-{
-    let text = nothing();
-    Fed {
-        bench: s,
-        text: text,
-    }
-}
-
-// One byte more: it is held, or it completes a record.
-pub fn feed(s: Bench, b: u8) -> Fed
-    ensures { (result.bench ≡ fed s b) × Says result.text (said s b) }
-{
-    let held = s.held;
-    let mut more = s;
-    if held == 0 {
-        more.held = 1;
-        more.kind = b;
-        more.thread = 0;
-        more.argument = 0;
-        return hold(more);
-    }
-    if held == 1 {
-        more.held = 2;
-        more.thread = b;
-        more.argument = 0;
-        return hold(more);
-    }
-    if held == 2 {
-        more.held = 3;
-        more.argument = b;
-        return hold(more);
-    }
-    answer(s, b)
-}
-
-// Copies a text to `at` in a room that has place for it.
-fn put(bytes: [u8; Text::ROOM], len: usize, out: &mut [u8], at: usize)
-    requires { (len ≤ 48) × (at + len ≤ length out.old) }
-    ensures { out.new ≡ paste out.old at bytes len }
-{
-    let mut i = 0;
-    while i < len {
-        out[at + i] = bytes[i];
-        i += 1;
-    }
-}
-
-// A part of the input: byte after byte, as long as there is room for a line.
-pub fn drill(s: Bench, input: &[u8], out: &mut [u8]) -> Part
-    ensures { Drills s input.now out.new result }
-{
-    let mut bench = s;
-    let mut used = 0;
-    let mut len = 0;
-    while used < input.len() {
-        if out.len() - len < Text::ROOM {
-            break;
+    // A part of the input: byte after byte, as long as there is room for a line.
+    pub fn drill(&mut self, input: &[u8], out: &mut [u8]) -> Part
+        ensures { Drills self.old input.now out.new self.new result }
+    {
+        let mut len = 0;
+        for (used, b) in input.iter().enumerate() {
+            if out.len() - len < Text::ROOM {
+                return Part { used, len };
+            }
+            if let Some(line) = self.feed(*b) {
+                let bytes = line.as_bytes();
+                put(bytes, out, len);
+                len += bytes.len();
+            }
         }
-        let fed = feed(bench, input[used]);
-        let text = fed.text;
-        let bytes = text.bytes;
-        put(bytes, text.len, out, len);
-        len += text.len;
-        bench = fed.bench;
-        used += 1;
+        Part {
+            used: input.len(),
+            len,
+        }
     }
-    Part {
-        bench: bench,
-        used: used,
-        len: len,
-    }
+}
+
+// Copies a line to `at` in a room that has place for it.
+fn put(line: &[u8], out: &mut [u8], at: usize)
+    requires { at + length line.now ≤ length out.old }
+    ensures { take (at + length line.now) out.new ≡ take at out.old ++ line.now }
+{
+    out[at..at + line.len()].copy_from_slice(line);
 }

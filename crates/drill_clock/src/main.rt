@@ -2,73 +2,53 @@
 // the last that is accepted.
 #![tactic(auto)]
 
+use drill::Bench;
 use drill::printing::print;
-use drill::{Bench, Fed, feed};
 use listing::header;
-use locks::Record;
+use refusals::{Kind, Record};
+use streams::failure::Failure;
+use streams::programs::end;
 
 // The accepted events that come before the edge, after the first Create.
 const SETS: u32 = 65533;
 
-// A bench, and whether its lines are all written.
-#[derive(Clone, Copy)]
-struct Shown {
-    bench: Bench,
-    well: bool,
+// The last event that is accepted, and then each kind at 65,535: it gives 5, unless 2, 3 or 4 catches it.
+fn edge() -> [Record; 9] {
+    let no_kind = Record {
+        kind: 6,
+        thread: 0,
+        argument: 0,
+        zero: 0,
+    };
+    [
+        Record::new(Kind::Create, 1, 9),
+        Record::new(Kind::Create, 2, 9),
+        Record::new(Kind::Exit, 0, 0),
+        Record::new(Kind::Set, 0, 9),
+        Record::new(Kind::P, 0, 0),
+        Record::new(Kind::V, 0, 0),
+        no_kind,
+        Record::new(Kind::Create, 32, 9),
+        Record::new(Kind::P, 0, 16),
+    ]
 }
 
-// A record whose fourth byte is 0.
-fn give(s: Bench, kind: u8, thread: u8, argument: u8) -> Fed {
-    let first = feed(s, kind);
-    let second = feed(first.bench, thread);
-    let third = feed(second.bench, argument);
-    feed(third.bench, 0)
-}
-
-// The same, with its line printed if those before it were.
-fn show<P: Print + Eprint>(rt: &P, s: Shown, kind: u8, thread: u8, argument: u8) -> Shown {
-    let before = s.bench;
-    let fed = give(before, kind, thread, argument);
-    let after = fed.bench;
-    Shown {
-        bench: after,
-        well: s.well && print(rt, fed.text, before.number),
+// Thread 0 is created and sets its priority over and over, and the lines at the edge are printed.
+fn try_edge<P: Print>(rt: &P) -> Result<u64, Failure<'static>> {
+    let mut bench = Bench::start();
+    bench.answer(Record::new(Kind::Create, 0, 1));
+    for _ in 0..SETS {
+        bench.answer(Record::new(Kind::Set, 0, 1));
     }
-}
-
-// Thread 0 sets its priority over and over.
-fn age(s: Bench) -> Bench {
-    let mut bench = s;
-    let mut left = SETS;
-    while left > 0 {
-        left -= 1;
-        let fed = give(bench, Record::SET, 0, 1);
-        bench = fed.bench;
+    print(rt, &header(), 0)?;
+    for e in edge() {
+        let before = bench.number;
+        let line = bench.answer(e);
+        print(rt, &line, before)?;
     }
-    bench
-}
-
-// At 65,535 each kind gives 5, unless 2, 3 or 4 catches it.
-fn stopped<P: Print + Eprint>(rt: &P, s: Shown) -> Shown {
-    let created = show(rt, s, Record::CREATE, 2, 9);
-    let exited = show(rt, created, Record::EXIT, 0, 0);
-    let set = show(rt, exited, Record::SET, 0, 9);
-    let requested = show(rt, set, Record::P, 0, 0);
-    let released = show(rt, requested, Record::V, 0, 0);
-    let unknown = show(rt, released, 6, 0, 0);
-    let nobody = show(rt, unknown, Record::CREATE, 32, 9);
-    show(rt, nobody, Record::P, 0, 16)
+    Ok(bench.number)
 }
 
 fn main(rt: HostRuntime) {
-    let created = give(Bench::start(), Record::CREATE, 0, 1);
-    let aged = Shown {
-        bench: age(created.bench),
-        well: print(&rt, header(), 0),
-    };
-    let last = stopped(&rt, show(&rt, aged, Record::CREATE, 1, 9));
-    let bench = last.bench;
-    if last.well {
-        streams::close_output(&rt, bench.number);
-    }
+    end(&rt, try_edge(&rt));
 }

@@ -2,43 +2,30 @@
 #![tactic(auto)]
 
 use drill::printing::print_listing;
-use std::fs::{File, Files};
-use streams::fail;
+use streams::programs::run_on_files;
 
-// Lists the input of that name, and answers whether it is listed whole.
-fn list<R: Files + Print + Eprint>(rt: &R, path: &str) -> bool {
-    match File::open(rt, path) {
-        Ok(mut file) => {
-            let listed = print_listing(rt, &mut file, path.as_bytes());
-            listed.whole
-        }
-        Err(error) => {
-            fail(rt, path.as_bytes(), 0, error);
-            false
-        }
-    }
-}
-
-fn list_all<R: Files + Print + Eprint>(rt: &R) -> bool {
-    list(rt, "bytes_1025.in")
-        && list(rt, "bytes_1026.in")
-        && list(rt, "chain_of_16.in")
-        && list(rt, "deep.in")
-        && list(rt, "deep_few.in")
-        && list(rt, "empty.in")
-        && list(rt, "four_threads.in")
-        && list(rt, "junk.in")
-        && list(rt, "large.in")
-        && list(rt, "listing.in")
-        && list(rt, "small.in")
-        && list(rt, "tail_1.in")
-        && list(rt, "tail_2.in")
-        && list(rt, "tail_3.in")
-        && list(rt, "ties.in")
-}
+const NAMES: [&str; 15] = [
+    "bytes_1025.in",
+    "bytes_1026.in",
+    "chain_of_16.in",
+    "deep.in",
+    "deep_few.in",
+    "empty.in",
+    "four_threads.in",
+    "junk.in",
+    "large.in",
+    "listing.in",
+    "small.in",
+    "tail_1.in",
+    "tail_2.in",
+    "tail_3.in",
+    "ties.in",
+];
 
 fn main(rt: HostRuntime) {
-    if list_all(&rt) {
-        streams::close_output(&rt, 0);
-    }
+    run_on_files(
+        &rt,
+        &NAMES,
+        |mut file, name| print_listing(&rt, &mut file, name),
+    );
 }

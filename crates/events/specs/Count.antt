@@ -1,4 +1,4 @@
--- Document 01, "The count of re-evaluations". Assumes nothing.
+-- The count of re-evaluations: how many threads an accepted event has worked out afresh. Assumes nothing.
 use Rattle.std.specs.Prelude.{ℕ, zero, suc, ◌+◌, cond, ◌||◌, List, [], ◌∷◌, eqb}
 use Rattle.std.proofs.Math.Option.{Option, none, some}
 use Rattle.protocol.specs.Events.{Thread, Event, Create, Exit, Set, P, «V»}

@@ -1,4 +1,4 @@
--- Document 01, "Accepted events": the table after each, with document 02's totals and next holder. Assumes nothing.
+-- Accepted events: the table after each, with the totals and the next holder. Assumes nothing.
 use Rattle.std.specs.Prelude.{ℕ, zero, suc, ◌+◌, ◌*◌, ◌-◌, cond, List, [], ◌∷◌, ◌++◌, eqb, length, take, drop, set, replicate}
 use Rattle.std.proofs.Math.Option.{Option, none, some}
 use Rattle.protocol.specs.Events.{Thread, Resource, Event, Create, Exit, Set, P, «V»}
@@ -84,7 +84,7 @@ unfoldable pub highest_current : Table → Thread → List Thread → Thread
 highest_current t th [] = th
 highest_current t th (x ∷ xs) = let b = cond (is_higher (current t x) (current t th)) x th in highest_current t b xs
 
--- Document 02, K5: who follows the head of a queue is, of those who wait, the one with the highest current precedence
+-- who follows the head of a queue is, of those who wait, the one with the highest current precedence
 unfoldable pub heir : Table → List Thread → Option Thread
 heir t [] = none
 heir t (holder ∷ []) = none

@@ -20,10 +20,9 @@ pub fn step_lent(t: &mut Table, e: Record) -> Answer
 }
 
 // A table by value, lent on.
-pub fn step_of(t: Table, e: Record) -> Done
+pub fn step_of(mut t: Table, e: Record) -> Done
     ensures { result ≡ answer_of t e }
 {
-    let mut table = t;
-    let answer = step_lent(&mut table, e);
-    Done { table, answer }
+    let answer = step_lent(&mut t, e);
+    Done { table: t, answer }
 }

@@ -1,4 +1,4 @@
--- Lines of document 01, one with nobody running, the longest columns, the header and the last lines. Assumes nothing.
+-- Lines of the bench listing, one with nobody running, the longest columns, the header and the last lines. Assumes nothing.
 use mathlib.Core.Path.{◌≡◌, refl}
 use mathlib.Core.List.{[], ◌∷◌}
 use Rattle.listing.specs.Text.{bytes, digits, decimal, dash_or, header, line, tail_line, stop_line}

@@ -1,4 +1,4 @@
--- The bench listing's lines, byte by byte, in document 01's words. Assumes nothing.
+-- The bench listing's lines, byte by byte. Assumes nothing.
 use Rattle.std.specs.Prelude.{ℕ, zero, suc, ◌+◌, ◌/◌, ◌%◌, cond, List, [], ◌∷◌, ◌++◌, eqb, ltb}
 use Prim.Native.Char.{code}
 use Prim.Native.String.{String, [] as end, ◌∷◌ as ◌then◌}

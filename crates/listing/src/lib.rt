@@ -1,117 +1,115 @@
-// The lines of the bench listing as bytes. See specs/ for what each line says.
+// The lines of the bench listing. See specs/ for what each line says.
 #![tactic(auto)]
 
-ghost use Rattle.std.specs.Prelude.{[], ◌∷◌, ◌++◌, ◌+◌, ◌≤◌, length};
+ghost use Rattle.std.specs.Prelude.{◌≡◌, [], ◌∷◌, ◌++◌, ◌+◌, ◌≤◌, length, encode_utf8, codes};
 ghost use Rattle.listing.specs.Text.{decimal, dash_or, space, newline, header, line, tail_line, stop_line};
-ghost use Rattle.listing.specs.Writing.{Says, Blank, Writes};
 
+use arrayvec::ArrayString;
+use itoa::{Buffer, Integer};
+use std::marker::Model;
 use table::Table;
 
-// A text of at most 48 bytes: the first `len` of `bytes`. The longest line has 33, so columns can still be added. What writes
-// takes the text and gives a longer one back.
-#[derive(Clone, Copy)]
+// A text of at most 48 bytes. The longest line has 33, so columns can still be added.
+#[derive(Drop)]
 pub struct Text {
-    pub bytes: [u8; Text::ROOM],
-    pub len: usize,
+    shown: ArrayString<{ Text::ROOM }>,
+}
+
+// Contracts see its bytes.
+impl Model for Text {
+    ghost use Rattle.std.specs.Prelude.{ℕ, List};
+
+    ghost Value = { List ℕ };
+
+    ghost view = { λ t. t.shown.bytes };
 }
 
 impl Text {
     pub const ROOM: usize = 48;
 
+    // Its bytes, which fit into the room of one line.
+    pub fn as_bytes(&self) -> &[u8]
+        ensures value { result.now ≡ self.now }
+        ensures fits { length result.now ≤ Text.ROOM }
+    {
+        self.shown.as_str().as_bytes()
+    }
+
     fn blank() -> Text
-        ensures { Blank result }
+        ensures { result ≡ [] }
     {
         Text {
-            bytes: [0; Text::ROOM],
-            len: 0,
+            shown: ArrayString::new(),
         }
     }
 
-    fn byte(mut self, b: u8) -> Text
-        requires { self.len + 1 ≤ 48 }
-        ensures { Writes self (b ∷ []) result }
+    fn word(mut self, s: &str) -> Text
+        requires { length self + length s.now ≤ 48 }
+        ensures { result ≡ self ++ s.now }
     {
-        let at = self.len;
-        self.bytes[at] = b;
-        self.len = at + 1;
+        self.shown.push_str(s);
         self
     }
 
-    fn word(self, s: &[u8]) -> Text
-        requires { self.len + length s.now ≤ 48 }
-        ensures { Writes self s.now result }
+    fn number<N: Integer>(self, n: N) -> Text
+        requires { length self + N.MAX_STR_LEN ≤ 48 }
+        ensures { (result ≡ self ++ N.text n) × (length result ≤ length self + N.MAX_STR_LEN) }
     {
-        let mut t = self;
-        let mut i = 0;
-        while i < s.len() {
-            t = t.byte(s[i]);
-            i += 1;
-        }
-        t
+        self.word(Buffer::new().format(n))
     }
 
-    // The digits in front are written first, so none has to be moved later.
-    fn number(self, n: u64) -> Text
-        requires { self.len + length (decimal n) ≤ 48 }
-        ensures { Writes self (decimal n) result }
-    {
-        let last = b'0' + (n % 10) as u8;
-        if n < 10 {
-            return self.byte(last);
-        }
-        self.number(n / 10).byte(last)
-    }
-
-    // A space and a number. A byte has at most three digits; that a column is at most four bytes is said for those who write several.
+    // A space and a number. That a column is at most four bytes is said for those who write several.
     fn column(self, x: u8) -> Text
-        requires { self.len + 4 ≤ 48 }
-        ensures { Writes self (space ++ decimal x) result × (result.len ≤ self.len + 4) }
+        requires { length self + 4 ≤ 48 }
+        ensures { (result ≡ self ++ space ++ decimal x) × (length result ≤ length self + 4) }
     {
-        self.byte(b' ').number(x as u64)
+        self.word(" ").number(x)
     }
 
-    #[tactic(auto, using(crate::proofs::Decimals::dash, crate::proofs::Decimals::no_dash, crate::proofs::Written::both))]
+    #[tactic(auto, using(crate::proofs::Decimals::no_dash))]
     fn thread_column(self, x: u8) -> Text
-        requires { self.len + 4 ≤ 48 }
-        ensures { Writes self (space ++ dash_or x) result × (result.len ≤ self.len + 4) }
+        requires { length self + 4 ≤ 48 }
+        ensures { (result ≡ self ++ space ++ dash_or x) × (length result ≤ length self + 4) }
     {
-        if x == Table::NOBODY {
-            return self.byte(b' ').byte(b'-');
+        let nobody = x == Table::NOBODY;
+        if nobody {
+            return self.word(" ").word("-");
         }
         self.column(x)
     }
 }
 
 pub fn header() -> Text
-    ensures { Says result header }
+    ensures { result ≡ header }
 {
-    Text::blank().word(b"n code run count\n")
+    Text::blank().word("n code run count\n")
 }
 
+#[tactic(auto, using(crate::proofs::Decimals::printed))]
 pub fn line(n: u64, code: u8, run: u8, count: u8) -> Text
-    ensures { Says result (line n code run count) }
+    ensures { result ≡ line n code run count }
 {
     let numbered = Text::blank().number(n);
     let answered = numbered.column(code).thread_column(run).column(count);
-    answered.byte(b'\n')
+    answered.word("\n")
 }
 
 // A word and a number. A number has a column of four bytes, and the newline is one more.
-fn last_line(word: &[u8], n: u8) -> Text
+fn last_line(word: &str, n: u8) -> Text
     requires { length word.now + 5 ≤ 48 }
-    ensures { Says result (word.now ++ space ++ decimal n ++ newline) }
+    ensures { result ≡ word.now ++ space ++ decimal n ++ newline }
 {
-    Text::blank().word(word).column(n).byte(b'\n')
+    Text::blank().word(word).column(n).word("\n")
 }
 
 pub fn tail_line(k: u8) -> Text
-    ensures { Says result (tail_line k) }
+    ensures { result ≡ tail_line k }
 {
-    last_line(b"tail", k)
+    last_line("tail", k)
 }
 
 pub fn stop_line(n: u8) -> Text
-    ensures { Says result (stop_line n) }
+    ensures { result ≡ stop_line n }
 {
-    last_line(b"stop", n)
+    last_line("stop", n)
 }

@@ -2,10 +2,8 @@
 #![tactic(auto)]
 
 use drill::printing::print_listing;
+use streams::programs::end;
 
 fn main(rt: HostRuntime) {
-    let listed = print_listing(&rt, &mut rt.stdin(), b"standard input");
-    if listed.whole {
-        streams::close_output(&rt, listed.records);
-    }
+    end(&rt, print_listing(&rt, &mut rt.stdin(), b"standard input"));
 }

@@ -71,6 +71,6 @@ module _ {t : Table} {e : Record} {kind : Kind} {currents : List ℕ} {next : Ma
       go kinds.V q h = ap (named e) (h refl).1
 
   -- so what is left once it is carried out, with its answer, is the step's result
-  pub stepped : {after : Table} {o : Outcome} → Carried t e (next_at t.rows.queue e.argument next) after o → (a : Answer) → a ≡ record { number = 0; running = o.running; count = o.count } → record { table = after; answer = a } ≡ answer_of t e
+  pub stepped : {after : Table} {o : Outcome} → Carried t e (next_at t.rows.queue e.argument next) after o → record { table = after; answer = record { number = 0; running = o.running; count = o.count } } ≡ answer_of t e
   unfolding accepted
-  stepped c a q = rw (q, c.made, c.running_is, c.count_is) (sym (let_through t e is.1 (sym same_event ∙ c.named_is)))
+  stepped c = rw (c.made, c.running_is, c.count_is) (sym (let_through t e is.1 (sym same_event ∙ c.named_is)))

@@ -11,7 +11,8 @@ use refusals::Reason;
 pub use refusals::Record;
 use table::Table;
 
-// The answer to an event: the number, the running thread of the table afterwards, and the count of re-evaluations.
+// The answer to an event: the number, the running thread of the table afterwards, and the count of re-evaluations. It is C's struct, and C has
+// no Result: so the number is 0 or a reason's.
 #[repr(C)]
 #[derive(Clone, Copy)]
 pub struct Answer {

@@ -53,11 +53,14 @@ pub fn locktable_resource(t: &Table, resource: u8) -> ResourceAnswer
     resource_of(*t, resource)
 }
 
-// A record is kept in the lent log, behind the `so_far` that it has.
+// A record is kept in the lent log, behind the `so_far` that it has. The answer is 0 for C, or the refusal's number.
 pub fn locktable_log(log: &mut [u8], so_far: u32, e: Record) -> u8
     ensures { Keeps log.old so_far (four_of e) result log.new }
 {
-    keep(log, so_far, [e.kind, e.thread, e.argument, e.zero])
+    match keep(log, so_far, [e.kind, e.thread, e.argument, e.zero]) {
+        Ok(()) => 0,
+        Err(refusal) => u8::from(refusal),
+    }
 }
 
 // A log is read back: the table after it comes by value, with how many records were applied and what stopped it.

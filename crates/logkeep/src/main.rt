@@ -2,10 +2,8 @@
 #![tactic(auto)]
 
 use keeping::writing::keep_input;
+use streams::programs::end;
 
 fn main(rt: HostRuntime) {
-    let kept = keep_input(&rt, &mut rt.stdin(), b"standard input");
-    if kept.whole {
-        streams::close_output(&rt, kept.records);
-    }
+    end(&rt, keep_input(&rt, &mut rt.stdin(), b"standard input"));
 }

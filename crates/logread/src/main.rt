@@ -2,10 +2,8 @@
 #![tactic(auto)]
 
 use reading::printing::print_log;
+use streams::programs::end;
 
 fn main(rt: HostRuntime) {
-    let listed = print_log(&rt, &mut rt.stdin(), b"standard input");
-    if listed.whole {
-        streams::close_output(&rt, listed.records);
-    }
+    end(&rt, print_log(&rt, &mut rt.stdin(), b"standard input"));
 }

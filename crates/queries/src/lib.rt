@@ -1,4 +1,5 @@
-// The three queries. Each tests the table, as every call does, and changes nothing. A `number` is 0, or why it is refused.
+// The three queries. Each tests the table, as every call does, and changes nothing. The answers are C's structs, and C has no Result: a
+// `number` is 0, or why it is refused.
 #![tactic(auto)]
 
 ghost use Rattle.std.specs.Prelude.{◌≡◌};

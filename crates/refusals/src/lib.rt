@@ -32,14 +32,4 @@ impl Record {
             zero: 0,
         }
     }
-
-    pub const CREATE: u8 = 1;
-
-    pub const EXIT: u8 = 2;
-
-    pub const SET: u8 = 3;
-
-    pub const P: u8 = 4;
-
-    pub const V: u8 = 5;
 }

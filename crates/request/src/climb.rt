@@ -16,6 +16,7 @@ pub fn climb(graph: &Graph, current: &mut [u32; Table::THREADS], start: u8, v: u
 {
     let mut at = usize::from(start);
     let mut n = 0;
+    // No `for`: the walk ends where a holder says so, and no turn would read its bound.
     loop {
         n += 1;
         if v <= current[at] {

@@ -1,7 +1,10 @@
--- Which errors of the system pass, by their numbers on Linux. Assumes nothing.
-use Rattle.std.specs.Prelude.{Bool, cond, true, false, ℤ, pos, negsuc, eqb}
+-- Which errors of the system pass. Assumes nothing.
+use Rattle.std.specs.Prelude.{Bool, true, false}
+use Rattle.std.specs.declared.io.ErrorKind.{ErrorKind}
+use Rattle.std.specs.declared.io.ErrorKind.TheVariants.{Interrupted, WouldBlock}
 
--- interrupted (EINTR, 4), or not ready (EAGAIN, 11)
-abbrev pub passing : ℤ → Bool
-passing (pos n) = cond (eqb n 4) true (eqb n 11)
-passing (negsuc n) = false
+-- interrupted, or not ready
+abbrev pub passing : ErrorKind → Bool
+passing Interrupted = true
+passing WouldBlock = true
+passing _ = false

@@ -3,7 +3,6 @@
 
 pub mod numbers;
 pub mod queues;
-pub mod running;
 pub mod workings;
 
 ghost use Rattle.std.specs.Prelude.{◌≡◌, ◌<◌};
@@ -62,7 +61,7 @@ impl Table {
             current_priority: [0; Table::THREADS],
             current_time: [0; Table::THREADS],
             rows: Rows {
-                queue: [0; 512],
+                queue: [0; Table::PLACES],
                 length: [0; Table::RESOURCES],
             },
             requests: [0; Table::THREADS],
@@ -100,7 +99,7 @@ impl Table {
     }
 }
 
-// What the table has of one thread, but for its current precedence. A slot is made here and nowhere else.
+// What the table has of one thread, but for its current precedence: the same numbers, `live` too, since C fixes the table's.
 #[derive(Clone, Copy)]
 pub struct Slot {
     pub live: u8,
@@ -111,19 +110,6 @@ pub struct Slot {
 }
 
 impl Slot {
-    // The slot of these numbers, as the table has them.
-    pub fn of(live: u8, priority: u8, time: u16, requests: u16, releases: u16) -> Slot
-        ensures { result ≡ record { live = live; priority = priority; time = time; requests = requests; releases = releases } }
-    {
-        Slot {
-            live,
-            priority,
-            time,
-            requests,
-            releases,
-        }
-    }
-
     // Live, with this priority, set at this time; its totals count from here.
     pub fn fresh(priority: u8, time: u16) -> Slot
         ensures { result ≡ fresh_slot priority time }

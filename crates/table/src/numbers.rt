@@ -6,6 +6,7 @@ ghost use Rattle.table.specs.Code.Places.{slot_number, NumbersOf};
 
 use crate::Table;
 
+// The number of a precedence.
 pub fn number(priority: u8, time: u16) -> u32
     ensures { result ≡ rank 65535 (priority, time) }
 {
@@ -19,7 +20,8 @@ pub fn slot_number(live: u8, priority: u8, time: u16) -> u32
     if live == 1 { number(priority, time) } else { 0 }
 }
 
-pub fn numbers<'a>(
+// The numbers of all 32 slots.
+fn numbers<'a>(
     live: &'a [u8; Table::THREADS],
     priority: &'a [u8; Table::THREADS],
     time: &'a [u16; Table::THREADS],

@@ -1,16 +1,9 @@
 // Reading the queues.
-ghost use Rattle.std.specs.Prelude.{◌≡◌, ◌⊎◌, ◌<◌, ◌≤◌};
+ghost use Rattle.std.specs.Prelude.{◌≤◌};
 ghost use Rattle.protocol.specs.Sets.{Max};
 ghost use Rattle.table.specs.Code.Places.{Lengths};
 
 use crate::Table;
-
-// A byte as an index, with its range.
-pub fn wide(x: u8) -> usize
-    ensures { (result ≡ x) × (result < 256) }
-{
-    x as usize
-}
 
 // The length of the longest queue.
 pub fn longest(lengths: &[u8; Table::RESOURCES]) -> u8

@@ -33,8 +33,8 @@ pub struct Workings {
 }
 
 impl Workings {
-    // The running thread: of the threads that wait for nothing the one of highest number, the first of them; 32 if none has a number above
-    // 0. In a sound table just the live threads have one. The numbers are compared first, since most threads fail at that.
+    // The running thread: of the threads that wait for nothing the one of highest number, the first of them; 32, as the answers for C have
+    // it, if none has a number above 0. In a sound table just the live threads have one. The numbers are compared first, since most fail.
     #[tactic(auto, unfolding(crate::specs::Code::Ready::highest_ready, crate::specs::Code::Ready::ready_number))]
     pub fn running(&self) -> u8
         ensures { result ≡ highest_ready self.now.graph.waits self.now.current 32 }

@@ -1,12 +1,10 @@
--- What an accepted record is ready for: its event may begin, and a total has room for one more. Assumes nothing.
-use Prim.Native.Nat.{ℕ, ◌≤◌, ◌<◌}
+-- What an accepted record is ready for: its event may begin. Assumes nothing.
+use Prim.Native.Nat.{ℕ, ◌≤◌}
 use mathlib.Core.Path.{◌≡◌, refl, sym, ap, ◌∙◌}
 use mathlib.Core.List.{List}
-use native.Mathlib.Omega.{arith}
 use Rattle.std.specs.declared.option.Option.{Option}
 use Rattle.protocol.specs.Events.{Event, Create, Exit, Set, P, «V»}
 use Rattle.table.specs.declared.Table.{Table}
-use Rattle.table.specs.Table.{at}
 use Rattle.refusals.specs.declared.Record.{Record}
 use Rattle.refusals.specs.declared.kinds.Kind.{Kind}
 use Rattle.refusals.specs.declared.kinds.Kind.TheVariants as kinds
@@ -19,10 +17,6 @@ use Rattle.release.specs.Heir.{next_at}
 use Rattle.apply.specs.Accepted.{Accepted}
 
 module _ {t : Table} {e : Record} {kind : Kind} {waits holders owns currents : List ℕ} {next : Option Next} (a : Accepted t e kind waits holders owns currents next) where
-  -- no total is above the clock, so that one more fits
-  pub totals_early : (at t.requests e.thread < 65535) × (at t.releases e.thread < 65535)
-  totals_early = let l = a.known.sound.totals.low e.thread in (omega (arith, l.0), omega (arith, l.1))
-
   -- the number of a kind that is known
   pub number_is : {k : Kind} → kind ≡ k → e.kind ≡ kind_number k
   number_is k = sym a.kind_is ∙ ap kind_number k

@@ -1,4 +1,4 @@
--- A slot is written, before the current precedences are worked out: the table keeps document 01's other rules. Assumes nothing.
+-- A slot is written, before the current precedences are worked out: the table keeps the other rules of a sound table. Assumes nothing.
 use Prim.Native.Nat.{ℕ, ◌+◌, ◌≤◌, ◌<◌}
 use mathlib.Core.Path.{◌≡◌, refl, sym, ap, ◌∙◌}
 use mathlib.Core.Logic.{◌≢◌, ◌⊎◌, inl, inr, ⊎_elim}

@@ -38,7 +38,7 @@ module _ (t : Table) (g : Good t) (early : t.clock < 65535) where
   unfolding with_queue
   queue_good cs q low f = bare_good _ (later_shape (fits_shape t cs q g.shape low f)) (later_bare (queue_bare t cs q g.shape g.bare low f) early)
 
-  -- a permitted event keeps all rules of document 01 but those on the stored current precedences
+  -- a permitted event keeps all rules of a sound table but those on the stored current precedences
   pub changed_good : {ev : Event} → Permits t ev → Good (changed t ev)
   unfolding changed
   changed_good (create {th} {prio} low small new) = slot_good th _ low (create_fits t th prio small)

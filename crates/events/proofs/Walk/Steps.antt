@@ -1,4 +1,4 @@
--- Document 01's walk, a thread at a time: where it stops and how many it counts. Assumes nothing.
+-- The walk of the count, a thread at a time: where it stops and how many it counts. Assumes nothing.
 use Prim.Native.Nat.{ℕ, zero, suc, ◌+◌, ◌≤◌}
 use mathlib.Core.Path.{◌≡◌, refl, ap, ◌∙◌}
 use mathlib.Core.Bool.{Bool, true, false, cond, ◌||◌, false≢true}

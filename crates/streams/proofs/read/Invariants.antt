@@ -1,5 +1,6 @@
--- `streams::read` ends: the tries fall. Nothing has to hold from try to try but the room's length. Assumes nothing.
+-- `streams::read` meets its contract. The loop's invariant: what failed has taken nothing from the input. Assumes nothing.
+use Rattle.std.specs.Io.KnownBytes.{Keeps}
 use Rattle.streams.proofs.read.Given as goal
 
-abbrev pub decreases-loop-tries : goal.decreases-loop-tries
-decreases-loop-tries g l = l.tries
+abbrev pub invariant-loop : goal.invariant-loop
+invariant-loop g l = Keeps (g.R.Read.remaining l.initial.input) (g.R.Read.remaining l.input)

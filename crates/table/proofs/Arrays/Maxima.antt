@@ -1,7 +1,7 @@
 -- The highest number of a set that grows by the numbers that are compared next. Assumes nothing.
-use Prim.Native.Nat.{ℕ, ◌≤◌, ◌<◌, max}
-use mathlib.Core.Path.{◌≡◌, refl}
-use mathlib.Core.Logic.{◌⊎◌, inl, inr, ⊎_elim, by_cases}
+use Prim.Native.Nat.{ℕ, ◌≤◌, max}
+use mathlib.Core.Path.{refl}
+use mathlib.Core.Logic.{inl, inr, ⊎_elim, by_cases}
 use native.Mathlib.Decide.{dec_le}
 use native.Mathlib.Nat.{le_trans}
 use native.Mathlib.Omega.{arith}
@@ -19,9 +19,5 @@ joined {m} p q = record {
 }
 
 -- one number more
-pub of_two : (m v h : ℕ) → ((m < v) × (h ≡ v)) ⊎ ((v ≤ m) × (h ≡ m)) → Max ◌≤◌ (only m ∪ only v) h
-of_two m v h (inl (l, e)) = record { among = inr e; bound = λ a. ⊎_elim (λ i. omega arith) (λ i. omega arith) }
-of_two m v h (inr (l, e)) = record { among = inl e; bound = λ a. ⊎_elim (λ i. omega arith) (λ i. omega arith) }
-
 pub of_max : (m v : ℕ) → Max ◌≤◌ (only m ∪ only v) (max m v)
 of_max m v = record { among = by_cases (dec_le v m) (λ l. inl (omega arith)) (λ l. inr (omega arith)); bound = λ a. ⊎_elim (λ i. omega arith) (λ i. omega arith) }

@@ -2,16 +2,10 @@
 use Prim.Native.Nat.{◌≤◌}
 use mathlib.Core.Path.{refl}
 use native.Mathlib.Omega.{arith}
-use Rattle.apply.proofs.kinds.Ready.{totals_early, create_begun, exit_begun, set_begun, request_begun, release_begun}
+use Rattle.apply.proofs.kinds.Ready.{create_begun, exit_begun, set_begun, request_begun, release_begun}
 use Rattle.apply.proofs.kinds.Arms.{create_applied, exit_applied, set_applied, request_applied, release_applied}
 use Rattle.apply.proofs.kinds.apply.Goals.{in-Create, in-Exit, in-Set, in-P, in-V}
 use Rattle.apply.proofs.kinds.apply.Goals as goal
-
-pub requested-requires : goal.requested-requires
-requested-requires c = rw c.slot-slot.ensures (totals_early c.requires).0
-
-pub released-requires : goal.released-requires
-released-requires c = rw c.slot-slot.ensures (totals_early c.requires).1
 
 pub request-requires : goal.request-requires
 request-requires c = (c.args.t.now, c.args.w.now.own, request_begun c.requires c.in-P.is)

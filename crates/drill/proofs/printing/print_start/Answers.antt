@@ -1,20 +1,10 @@
--- `drill::printing::print_start` meets its contract. Assumes nothing.
-use mathlib.Core.Path.{◌≡◌}
-use mathlib.Core.Bool.{false≢true}
-use native.Mathlib.Omega.{arith}
-use lib.ListN.{length}
+-- `drill::printing::print_start` meets its contract: the room is large, so that some of the input goes in. Assumes nothing.
+use Rattle.std.proofs.Common.{◌≡◌, length, arith}
 use Rattle.drill.proofs.Parts.{goes_on}
 use Rattle.drill.proofs.printing.print_start.Goals as goal
 
--- some of the input goes in: the room is large
-pub returns-in-Some : goal.returns-in-Some
-returns-in-Some g c =
-    let d = c in
-    let e : 65536 ≡ length c.large_buffer-out.result = c.large_buffer-out.ensures in
-    record { within = d.drill-part.ensures.within; some = λ h. goes_on c.drill-part.ensures (omega (arith, e, c.drill-part.auto.out)) h; carried = λ e. absurd (false≢true e) }
-
-pub returns : goal.returns
-returns g c =
-    let d = c in
-    let e : 65536 ≡ length c.large_buffer-out.result = c.large_buffer-out.ensures in
-    record { within = d.drill-part.ensures.within; some = λ h. goes_on c.drill-part.ensures (omega (arith, e, c.drill-part.auto.out)) h; carried = λ _. d.drill-part.ensures.carried }
+pub returns-in-Ok : goal.returns-in-Ok
+returns-in-Ok g c =
+    let d = c.drill-part.ensures in
+    let large : 65536 ≡ length c.large_buffer-out.result = c.large_buffer-out.ensures in
+    record { within = d.within; some = goes_on d (omega (arith, large, c.drill-part.auto.out)); carried = d.carried }

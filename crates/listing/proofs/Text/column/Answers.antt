@@ -1,11 +1,8 @@
--- `listing::Text::column` meets its contract: a byte has at most three digits. Assumes nothing.
-use native.Mathlib.Omega.{arith}
-use Rattle.listing.proofs.Decimals.{short_byte}
-use Rattle.listing.proofs.Written.{both}
+-- `listing::Text::column` meets its contract: a byte is printed as its decimal digits. Assumes nothing.
+use Rattle.std.proofs.Common.{◌∙◌, refl, ap, length, length-append, arith}
+use Rattle.listing.proofs.Decimals.{printed}
 use Rattle.listing.proofs.Text.column.Goals as goal
 
-pub number-requires : goal.number-requires
-number-requires c = omega (arith, short_byte c.args.x (omega arith))
-
 pub returns : goal.returns
-returns c = (both c.byte.ensures c.number.ensures, omega (arith, short_byte c.args.x (omega arith)))
+returns c =
+    (c.number.ensures.0 ∙ rw (c.word.ensures, printed c.args.x (omega arith)) refl, omega (arith, simp length-append at (ap length c.word.ensures)))

@@ -1,10 +1,8 @@
 -- `refusals::refusal::refusal` meets its contract: the parts follow each other as `proofs/Given/Parts.antt` says. Assumes nothing.
 use Prim.Native.Nat.{ℕ}
-use mathlib.Core.Path.{◌≡◌, sym, ap, ◌∙◌}
+use mathlib.Core.Path.{◌≡◌, sym, ◌∙◌}
 use mathlib.Core.Bool.{true}
 use mathlib.Core.List.{List}
-use mathlib.Core.Logic.{◌≢◌, ⊎_elim, inl, inr}
-use native.Mathlib.Omega.{arith}
 use Rattle.std.proofs.lemmas.Result.{err_from_is_err_and}
 use Rattle.table.specs.declared.Table.{Table}
 use Rattle.table.specs.Compute.{is_sound}
@@ -12,11 +10,9 @@ use Rattle.table.specs.Code.Tracks.{Known}
 use Rattle.table.proofs.Tests.Decided.{tells_sound}
 use Rattle.refusals.specs.declared.Record.{Record}
 use Rattle.refusals.specs.declared.reasons.Reason.{Reason}
-use Rattle.refusals.specs.Numbers.{kind_number, reason_number}
+use Rattle.refusals.specs.Numbers.{reason_number}
 use Rattle.refusals.specs.Refusals.{lowest, refusals, by_record, by_thread, by_queues}
-use Rattle.refusals.specs.Applies.{IllFormed}
 use Rattle.refusals.proofs.Given.Parts.{above_0, given_record, given_thread, given_queues}
-use Rattle.refusals.proofs.Given.Formed.{well_formed, formed_thread, formed_resource}
 use Rattle.refusals.proofs.refusal.refusal.Goals as goal
 
 is_right : {t : Table} {waits holders owns currents : List ℕ} → Known t waits holders owns currents → is_sound t ≡ true

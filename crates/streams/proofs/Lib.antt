@@ -1,0 +1,2 @@
+-- What is written piece by piece.
+pub mod Pieces

@@ -1,0 +1,70 @@
+// What every program does at its end, and those over files.
+use crate::failure::Failure;
+use std::fmt::Display;
+use std::fs::{File, Files, OpenFile};
+use std::{fs, io};
+
+// Has what was written to standard output kept, if it is a file.
+fn keep_output<F: Files>(rt: &F) -> io::Result<()> {
+    match fs::metadata(rt, "/dev/stdout") {
+        Ok(kind) if kind.is_file() => {}
+        _ => return Ok(()),
+    }
+    match File::options().write(true).open(rt, "/dev/stdout") {
+        Ok(output) => output.sync_all(),
+        Err(_) => Ok(()),
+    }
+}
+
+// Ends standard output after so many records: some file systems say only then that they could not keep what was written.
+pub fn close_output<F: Files>(rt: &F, records: u64) -> Result<(), Failure<'static>> {
+    keep_output(rt).map_err(|error| Failure::of_output(records, error))
+}
+
+// Ends a program: where its work went well, after so many records, standard output is closed. What failed is said on standard error. The programs have no
+// exit status of their own: after that line one comes to its end, and ./run, which sees the line, ends with a status that is not 0.
+pub fn end<R: Files + Eprint, E: Display + Drop>(rt: &R, work: Result<u64, E>) {
+    match work {
+        Ok(records) => {
+            if let Err(failure) = close_output(rt, records) {
+                let _ = rt.eprintln(failure);
+            }
+        }
+        Err(failure) => {
+            let _ = rt.eprintln(failure);
+        }
+    }
+}
+
+// Does the work with each of the files by its name, one after the other, up to the first that fails.
+fn work_through<
+    'a,
+    R: Files,
+    E: From<Failure<'a>> + Drop,
+    F: FnMut(R::File, &'a [u8]) -> Result<u64, E>,
+>(rt: &R, names: &[&'a str], mut work: F) -> Result<(), E>
+    requires { F.IsAlwaysCallable work }
+{
+    for name in names {
+        let what = name.as_bytes();
+        let file = File::open(rt, *name).map_err(|error| Failure {
+            what,
+            records: 0,
+            error,
+        })?;
+        work(file, what)?;
+    }
+    Ok(())
+}
+
+// A program that does its work with each of the files by name.
+pub fn run_on_files<
+    'a,
+    R: Files + Eprint,
+    E: From<Failure<'a>> + Display + Drop,
+    F: FnMut(R::File, &'a [u8]) -> Result<u64, E>,
+>(rt: &R, names: &[&'a str], work: F)
+    requires { F.IsAlwaysCallable work }
+{
+    end(rt, work_through(rt, names, work).map(|()| 0));
+}
