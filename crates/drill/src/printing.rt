@@ -7,6 +7,7 @@ use crate::Bench;
 use listing::{Text, header};
 use std::io::{Read, writer};
 use streams::failure::Failure;
+use streams::input::Input;
 use streams::write_all;
 
 // Prints a text after so many records.
@@ -66,32 +67,25 @@ pub fn print_part<P: Print>(rt: &P, bench: &mut Bench, input: &[u8]) -> Result<(
 // Reads once and prints the lines of what came, and answers whether anything did.
 fn print_some<'a, P: Print, R: Read>(
     rt: &P,
-    from: &mut R,
-    name: &'a [u8],
+    input: &mut Input<'a, R>,
     bench: &mut Bench,
 ) -> Result<bool, Failure<'a>> {
-    let records = bench.number;
-    let mut input = io::large_buffer();
-    let got = streams::read(from, &mut input).map_err(|error| Failure {
-        what: name,
-        records,
-        error,
-    })?;
-    print_part(rt, bench, &input[..got])?;
+    let mut room = io::large_buffer();
+    let got = input.read(&mut room, bench.number)?;
+    print_part(rt, bench, &room[..got])?;
     Ok(got > 0)
 }
 
-// Reads to the end and prints the listing, and answers how many records it has. The name is what a failure to read is said of. A proved loop has to end,
-// and nothing says that an input does: the turns are a number that no run uses up.
+// Reads to the end and prints the listing, and answers how many records it has. A proved loop has to end, and nothing says that an input does: the turns
+// are a number that no run uses up.
 pub fn print_listing<'a, P: Print, R: Read>(
     rt: &P,
-    from: &mut R,
-    name: &'a [u8],
+    input: &mut Input<'a, R>,
 ) -> Result<u64, Failure<'a>> {
     let mut bench = Bench::start();
     print(rt, &header(), 0)?;
     for _ in 0..u64::MAX {
-        if !print_some(rt, from, name, &mut bench)? {
+        if !print_some(rt, input, &mut bench)? {
             break;
         }
     }

@@ -2,6 +2,7 @@
 #![tactic(auto)]
 
 use drill::printing::print_listing;
+use streams::input::Input;
 use streams::programs::run_on_files;
 
 const NAMES: [&str; 15] = [
@@ -26,6 +27,6 @@ fn main(rt: HostRuntime) {
     run_on_files(
         &rt,
         &NAMES,
-        |mut file, name| print_listing(&rt, &mut file, name),
+        |from, name| print_listing(&rt, &mut Input { from, name }),
     );
 }

@@ -2,6 +2,7 @@
 #![tactic(auto)]
 
 use keeping::writing::keep_input;
+use streams::input::Input;
 use streams::programs::run_on_files;
 
 const NAMES: [&str; 12] = [
@@ -23,6 +24,6 @@ fn main(rt: HostRuntime) {
     run_on_files(
         &rt,
         &NAMES,
-        |mut file, name| keep_input(&rt, &mut file, name),
+        |from, name| keep_input(&rt, &mut Input { from, name }),
     );
 }

@@ -2,8 +2,13 @@
 #![tactic(auto)]
 
 use drill::printing::print_listing;
+use streams::input::Input;
 use streams::programs::end;
 
 fn main(rt: HostRuntime) {
-    end(&rt, print_listing(&rt, &mut rt.stdin(), b"standard input"));
+    let mut input = Input {
+        from: rt.stdin(),
+        name: b"standard input",
+    };
+    end(&rt, print_listing(&rt, &mut input));
 }

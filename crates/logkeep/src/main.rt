@@ -2,8 +2,13 @@
 #![tactic(auto)]
 
 use keeping::writing::keep_input;
+use streams::input::Input;
 use streams::programs::end;
 
 fn main(rt: HostRuntime) {
-    end(&rt, keep_input(&rt, &mut rt.stdin(), b"standard input"));
+    let mut input = Input {
+        from: rt.stdin(),
+        name: b"standard input",
+    };
+    end(&rt, keep_input(&rt, &mut input));
 }

@@ -2,6 +2,7 @@
 #![tactic(auto)]
 
 use reading::printing::print_log;
+use streams::input::Input;
 use streams::programs::run_on_files;
 
 const NAMES: [&str; 25] = [
@@ -36,6 +37,6 @@ fn main(rt: HostRuntime) {
     run_on_files(
         &rt,
         &NAMES,
-        |mut file, name| print_log(&rt, &mut file, name),
+        |from, name| print_log(&rt, &mut Input { from, name }),
     );
 }

@@ -3,6 +3,7 @@
 #![tactic(auto)]
 
 pub mod failure;
+pub mod input;
 pub mod programs;
 
 ghost use Rattle.std.specs.Prelude.{◌≡◌, IfOk, IfErr, OnOk, take};
