@@ -318,15 +318,10 @@ of the thread that runs, before and after, since of all below it is asked whethe
 ## The test whether the table is sound
 
 The test alone: the function `soundness::check::check` of the library, and `fast_look` in `fast.c` and `best_look` in
-`best.c`, which are kept out of line for this. All also work out what the rest of a call needs; but the numbers of the
-precedences are lent to ours by the call, which works them out first, some 200 instructions that are not in here. Every
-call makes the test once: the step on the table before the event, and the three queries, asked after each event, on the
-table after it.
+`best.c`, which are kept out of line for this. All also work out what the rest of a call needs. Every call makes the
+test once: the step on the table before the event, and the three queries, asked after each event, on the table after it.
 
-Of ours the two rules on the totals take 72 on `small`: 66 for a pass over the 32 slots and 6 for counting, in the
-survey of the queues, in how many each thread stands; where many stand in queues the latter is one for each entry. That
-dead slots have no requests takes 10. This was counted once, by leaving them out of builds without a proof, which no
-command here repeats (`docs/changes/K2.md`).
+What the two rules on the totals took when they came is in `docs/changes/K2.md`, of an older form and an older kit.
 
 {sound}
 ## The queries
