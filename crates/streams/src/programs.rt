@@ -20,17 +20,17 @@ fn keep_output<F: Files>(rt: &F) -> io::Result<()> {
 // standard error.
 pub fn close_output<R: Files + Eprint>(rt: &R, records: u64) {
     if let Err(error) = keep_output(rt) {
-        let _ = rt.eprintln(Failure::of_output(records, error));
+        let _ = rt.eprint(Failure::of_output(records, error));
     }
 }
 
-// Ends a program: where its work went well, after so many records, standard output is closed. What failed is said on standard error. The programs have no
+// Ends a program: where its work went well, after so many records, standard output is closed. What failed is said on standard error by its line. The programs have no
 // exit status of their own: after that line one comes to its end, and ./run, which sees the line, ends with a status that is not 0.
 pub fn end<R: Files + Eprint, E: Display + Drop>(rt: &R, work: Result<u64, E>) {
     match work {
         Ok(records) => close_output(rt, records),
         Err(failure) => {
-            let _ = rt.eprintln(failure);
+            let _ = rt.eprint(failure);
         }
     }
 }
