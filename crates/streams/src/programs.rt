@@ -1,5 +1,8 @@
-// What every program does at its end, and those over files.
+// What every program does at its end, and how those over files begin with each.
+ghost use Rattle.std.specs.Prelude.{◌*◌, ◌≡◌, IfOk, IfErr};
+
 use crate::failure::Failure;
+use crate::input::Input;
 use std::fmt::Display;
 use std::fs::{File, Files, OpenFile};
 use std::{fs, io};
@@ -35,35 +38,18 @@ pub fn end<R: Files + Eprint, E: Display + Drop>(rt: &R, work: Result<u64, E>) {
     }
 }
 
-// Does the work with each of the files by its name, one after the other, up to the first that fails.
-fn work_through<
-    'a,
-    R: Files,
-    E: From<Failure<'a>> + Drop,
-    F: FnMut(R::File, &'a [u8]) -> Result<u64, E>,
->(rt: &R, names: &[&'a str], mut work: F) -> Result<(), E>
-    requires { F.IsAlwaysCallable work }
+// The input in the file of that name.
+pub fn open<'a, F: Files>(rt: &F, name: &'a str) -> Result<Input<'a, F::File>, Failure<'a>>
+    ensures named { IfOk result (λ input. input.name.now ≡ name.now) }
+    ensures failed { IfErr result (λ failure. (failure.what.now ≡ name.now) × (failure.records ≡ 0)) }
 {
-    for name in names {
-        let what = name.as_bytes();
-        let file = File::open(rt, *name).map_err(|error| Failure {
+    let what = name.as_bytes();
+    match File::open(rt, name) {
+        Ok(from) => Ok(Input { from, name: what }),
+        Err(error) => Err(Failure {
             what,
             records: 0,
             error,
-        })?;
-        work(file, what)?;
+        }),
     }
-    Ok(())
-}
-
-// A program that does its work with each of the files by name.
-pub fn run_on_files<
-    'a,
-    R: Files + Eprint,
-    E: From<Failure<'a>> + Display + Drop,
-    F: FnMut(R::File, &'a [u8]) -> Result<u64, E>,
->(rt: &R, names: &[&'a str], work: F)
-    requires { F.IsAlwaysCallable work }
-{
-    end(rt, work_through(rt, names, work).map(|()| 0));
 }
