@@ -31,10 +31,10 @@
  *   - SSE2 switched on, and the registers xmm0 to xmm15 saved by whoever still needs what they hold.
  *     Arguments and answers go by general registers, and the answer of locktable_replay by memory, so the
  *     caller may be compiled without SSE (-mgeneral-regs-only).
- *   - Up to 4 KiB of stack, and for locktable_replay up to 5 KiB (measured; bench/FIGURES.md). The red zone may
- *     be used, the 128 bytes below the stack pointer: no interrupt may write there. In ring 0 the processor
- *     itself does so, at an interrupt that stays on this stack; there a call needs interrupts switched off, and
- *     NMIs a stack of their own (IST).
+ *   - Up to 3 KiB of stack, and for locktable_replay up to 4 KiB (measured; bench/FIGURES.md). The red zone is
+ *     used, the 128 bytes below the stack pointer: no interrupt may write there. In ring 0 the processor itself
+ *     does so, at an interrupt that stays on this stack; there a call needs interrupts switched off, and NMIs a
+ *     stack of their own (IST).
  *   - Indirect branch tracking (IBT, a part of CET) switched off during the call. No function here begins
  *     with endbr64, and locktable_step has an indirect jump inside: it would fault even if it is called
  *     directly. The archive is not marked as fit for IBT (it has no .note.gnu.property).
@@ -48,7 +48,7 @@
  *     and logs are independent, and calls on different ones may be in progress at once, on two processors
  *     or in an interrupt that comes during a call. (What is said above of the xmm registers and the red
  *     zone holds for that interrupt too.)
- *   - A step takes some 2,500 to 4,500 instructions on tables as they come up, and fewer than 7,500 on the
+ *   - A step takes some 2,000 to 3,500 instructions on tables as they come up, and fewer than 7,000 on the
  *     worst that was found. A query takes fewer than a step on the same table, a record of the log fewer
  *     than 2,000. A log that is read back takes a step for each record and fewer than 1,000 besides, and
  *     fewer than 3,000 for one pass over each block: a long log takes long, and so the call is for the bench

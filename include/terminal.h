@@ -15,13 +15,13 @@
  *   - All that locktable.h says under this heading, but for the figure of the stack.
  *   - The table writable, in each of the three calls, whatever it holds. A spare task that is refused stores
  *     all the bytes back, as they were.
- *   - Up to 6 KiB of stack (measured; bench/FIGURES.md), the red zone with it.
+ *   - Up to 5 KiB of stack (measured; bench/FIGURES.md), the red zone with it.
  *
  * WHAT IT PROMISES
  *   - Each call comes to an end, doesn't allocate, doesn't wait and doesn't keep the pointer, and the lent
  *     table is the only state, as locktable.h says of its own.
- *   - terminal_start takes fewer than 55,000 instructions, since it makes sixteen steps: it is for the start
- *     of a shipment. A spare task takes fewer than 3,500 on the table that terminal_start leaves, and about
+ *   - terminal_start takes fewer than 50,000 instructions, since it makes sixteen steps: it is for the start
+ *     of a shipment. A spare task takes fewer than 3,000 on the table that terminal_start leaves, and about
  *     what a step takes on any other. These are measured, not proved (bench/FIGURES.md).
  *   - What the calls do and answer, as this file says it, is proved for every table and every argument:
  *     in crates/terminal what each function leaves, and in src/tasks.rt of crates/locktable_c and

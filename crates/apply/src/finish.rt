@@ -53,15 +53,15 @@ pub struct Outcome {
 // The table becomes the one after the event. At a V `next` is whoever follows.
 pub fn carry_out(
     t: &mut Table,
-    mut w: Workings,
+    w: &mut Workings,
     kind: Kind,
     e: Record,
     next: Option<Next>,
 ) -> Outcome
-    requires { Accepted t.old e kind w.graph.waits w.graph.holders w.own w.current next }
+    requires { Accepted t.old e kind w.old.graph.waits w.old.graph.holders w.old.own w.old.current next }
     ensures { Carried t.old e (next_at t.old.rows.queue e.argument next) t.new result }
 {
-    let count = apply(t, &mut w, kind, e, next);
+    let count = apply(t, w, kind, e, next);
     store(t, &w.current);
     Outcome {
         running: w.running(),

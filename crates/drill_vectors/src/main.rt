@@ -2,8 +2,9 @@
 #![tactic(auto)]
 
 use drill::printing::print_listing;
-use streams::input::Input;
-use streams::programs::run_on_files;
+use std::fs::Files;
+use streams::failure::Failure;
+use streams::programs::{end, open};
 
 const NAMES: [&str; 15] = [
     "bytes_1025.in",
@@ -23,10 +24,13 @@ const NAMES: [&str; 15] = [
     "ties.in",
 ];
 
+fn list_all<R: Files + Print>(rt: &R) -> Result<u64, Failure<'static>> {
+    for name in NAMES {
+        print_listing(rt, &mut open(rt, name)?)?;
+    }
+    Ok(0)
+}
+
 fn main(rt: HostRuntime) {
-    run_on_files(
-        &rt,
-        &NAMES,
-        |from, name| print_listing(&rt, &mut Input { from, name }),
-    );
+    end(&rt, list_all(&rt));
 }

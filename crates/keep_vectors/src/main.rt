@@ -1,9 +1,9 @@
 // Keeps each of the inputs in data/ by name, one log after the other, up to the first that can't be kept whole.
 #![tactic(auto)]
 
-use keeping::writing::keep_input;
-use streams::input::Input;
-use streams::programs::run_on_files;
+use keeping::writing::{Failures, keep_input};
+use std::fs::Files;
+use streams::programs::{end, open};
 
 const NAMES: [&str; 12] = [
     "k1_accepted_124.in",
@@ -20,10 +20,13 @@ const NAMES: [&str; 12] = [
     "k1_tail.in",
 ];
 
+fn keep_all<R: Files + Print + Eprint>(rt: &R) -> Result<u64, Failures<'static>> {
+    for name in NAMES {
+        keep_input(rt, &mut open(rt, name)?)?;
+    }
+    Ok(0)
+}
+
 fn main(rt: HostRuntime) {
-    run_on_files(
-        &rt,
-        &NAMES,
-        |from, name| keep_input(&rt, &mut Input { from, name }),
-    );
+    end(&rt, keep_all(&rt));
 }

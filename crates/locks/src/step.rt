@@ -8,7 +8,7 @@ use crate::{Answer, Done};
 use apply::finish::{Outcome, carry_out};
 use refusals::{Kind, Reason, Record};
 use release::heir::follower;
-use soundness::check::check;
+use soundness::check::{passes, untested};
 use table::Table;
 
 // An accepted record is carried out on the table; for a refused one there is the answer, and the table stays. That the arrays have their
@@ -18,15 +18,16 @@ fn accept(t: &mut Table, e: Record) -> Result<Outcome, Answer>
         (λ o. record { table = t.new; answer = record { number = 0; running = o.running; count = o.count } } ≡ answer_of t.old e)
         (λ answer. record { table = t.new; answer = answer } ≡ answer_of t.old e) }
 {
-    let Some(w) = check(t) else {
+    let mut w = untested(t);
+    if !passes(t, &mut w) {
         return Err(Answer::refused(Reason::UnsoundTable, Table::NOBODY));
-    };
+    }
     let kind = judge(t, &w, e)?;
     let next = match kind {
         Kind::V => follower(&t.rows, &w.current, e.argument),
         _ => None,
     };
-    Ok(carry_out(t, w, kind, e, next))
+    Ok(carry_out(t, &mut w, kind, e, next))
 }
 
 // The table given is changed where it stands, and the result is made once, at the end: each further place that makes one would copy the

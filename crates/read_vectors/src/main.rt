@@ -2,8 +2,9 @@
 #![tactic(auto)]
 
 use reading::printing::print_log;
-use streams::input::Input;
-use streams::programs::run_on_files;
+use std::fs::Files;
+use streams::failure::Failure;
+use streams::programs::{end, open};
 
 const NAMES: [&str; 25] = [
     "k6_card_with_unused_blocks.in",
@@ -33,10 +34,13 @@ const NAMES: [&str; 25] = [
     "k6_wide_count.in",
 ];
 
+fn list_all<R: Files + Print>(rt: &R) -> Result<u64, Failure<'static>> {
+    for name in NAMES {
+        print_log(rt, &mut open(rt, name)?)?;
+    }
+    Ok(0)
+}
+
 fn main(rt: HostRuntime) {
-    run_on_files(
-        &rt,
-        &NAMES,
-        |from, name| print_log(&rt, &mut Input { from, name }),
-    );
+    end(&rt, list_all(&rt));
 }

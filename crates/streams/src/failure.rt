@@ -2,12 +2,11 @@
 ghost use Rattle.std.specs.Prelude.{◌≡◌, codes};
 
 use arrayvec::ArrayString;
-use bstr::BStr;
 use std::fmt;
 use std::fmt::Write as _;
 use std::io::Error;
 
-// What could not be read or written, after how many records, and why. It is shown as the line on standard error.
+// What could not be read or written, after how many records, and why. It is shown as the whole line on standard error, with its newline.
 #[derive(Clone, Copy)]
 pub struct Failure<'a> {
     pub what: &'a [u8],
@@ -36,16 +35,26 @@ fn words(text: &str) -> &str {
     }
 }
 
-// What is no text in the name is shown as such.
+// A name, in which what is no text is shown as such.
+fn show_name<W: fmt::Write>(name: &[u8], f: &mut fmt::Formatter<W>) -> fmt::Result {
+    for chunk in name.utf8_chunks() {
+        f.write_str(chunk.valid())?;
+        if !chunk.invalid().is_empty() {
+            f.write_char(char::REPLACEMENT_CHARACTER)?;
+        }
+    }
+    Ok(())
+}
+
 impl fmt::Display for Failure<'_> {
     fn fmt<W: fmt::Write>(&self, f: &mut fmt::Formatter<W>) -> fmt::Result {
-        let what = BStr::new(self.what);
         let records = self.records;
         let noun = if records == 1 { "record" } else { "records" };
         let error = self.error;
         let mut text = ArrayString::<256>::new();
         let _ = write!(text, "{error}");
         let why = words(text.as_str());
-        write!(f, "{what}, after {records} {noun}: {why}")
+        show_name(self.what, f)?;
+        write!(f, ", after {records} {noun}: {why}\n")
     }
 }

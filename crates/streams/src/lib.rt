@@ -6,7 +6,8 @@ pub mod failure;
 pub mod input;
 pub mod programs;
 
-ghost use Rattle.std.specs.Prelude.{◌≡◌, IfOk, IfErr, OnOk, take};
+ghost use Rattle.std.specs.Prelude.{◌≡◌, ◌↔◌, true, IsSome, IfOk, IfErr, OnOk, take};
+ghost use Rattle.std.specs.IoError.{raw_os_error, error_kind};
 ghost use Rattle.std.specs.Io.KnownBytes.{ReadConsumes, Appends};
 ghost use Rattle.io.specs.Counts.{IsPrefixLen};
 ghost use Rattle.streams.specs.Errors.{passing};
@@ -22,11 +23,13 @@ pub struct Torn {
     pub error: Error,
 }
 
-// Whether a call that failed so is to be made again: it was interrupted, or the stream is not ready.
-fn passes(kind: ErrorKind) -> bool
-    ensures { result ≡ passing kind }
+// Whether a call that failed so is to be made again: the system says that it was interrupted, or that the stream is not ready. An error that is not
+// the system's is final, whatever its kind: nothing says that whoever made it would make none the next time.
+fn passes(error: Error) -> bool
+    ensures { (result ≡ true) ↔ (IsSome (raw_os_error error) × (passing (error_kind error) ≡ true)) }
 {
-    matches!(kind, ErrorKind::Interrupted | ErrorKind::WouldBlock)
+    error.raw_os_error().is_some()
+        && matches!(error.kind(), ErrorKind::Interrupted | ErrorKind::WouldBlock)
 }
 
 // That no number of tries was enough. A proved loop has to end, and nothing says that a stream will be ready: the tries below are a number that no run
@@ -42,7 +45,7 @@ pub fn read<R: Read>(input: &mut R, room: &mut [u8]) -> io::Result<usize>
 {
     for _ in 0..u64::MAX {
         match input.read(room) {
-            Err(error) if passes(error.kind()) => yield_now(),
+            Err(error) if passes(error) => yield_now(),
             done => return done,
         }
     }
@@ -64,7 +67,7 @@ pub fn write_all<W: Write>(output: &mut W, bytes: &[u8]) -> Result<(), Torn>
         match output.write(rest) {
             Ok(0) => yield_now(),
             Ok(more) => written += more,
-            Err(error) if passes(error.kind()) => yield_now(),
+            Err(error) if passes(error) => yield_now(),
             Err(error) => return Err(Torn { written, error }),
         }
     }

@@ -1,5 +1,8 @@
-// What every program does at its end, and those over files.
+// What every program does at its end, and how those over files begin with each.
+ghost use Rattle.std.specs.Prelude.{◌*◌, ◌≡◌, IfOk, IfErr};
+
 use crate::failure::Failure;
+use crate::input::Input;
 use std::fmt::Display;
 use std::fs::{File, Files, OpenFile};
 use std::{fs, io};
@@ -20,50 +23,33 @@ fn keep_output<F: Files>(rt: &F) -> io::Result<()> {
 // standard error.
 pub fn close_output<R: Files + Eprint>(rt: &R, records: u64) {
     if let Err(error) = keep_output(rt) {
-        let _ = rt.eprintln(Failure::of_output(records, error));
+        let _ = rt.eprint(Failure::of_output(records, error));
     }
 }
 
-// Ends a program: where its work went well, after so many records, standard output is closed. What failed is said on standard error. The programs have no
+// Ends a program: where its work went well, after so many records, standard output is closed. What failed is said on standard error by its line. The programs have no
 // exit status of their own: after that line one comes to its end, and ./run, which sees the line, ends with a status that is not 0.
 pub fn end<R: Files + Eprint, E: Display + Drop>(rt: &R, work: Result<u64, E>) {
     match work {
         Ok(records) => close_output(rt, records),
         Err(failure) => {
-            let _ = rt.eprintln(failure);
+            let _ = rt.eprint(failure);
         }
     }
 }
 
-// Does the work with each of the files by its name, one after the other, up to the first that fails.
-fn work_through<
-    'a,
-    R: Files,
-    E: From<Failure<'a>> + Drop,
-    F: FnMut(R::File, &'a [u8]) -> Result<u64, E>,
->(rt: &R, names: &[&'a str], mut work: F) -> Result<(), E>
-    requires { F.IsAlwaysCallable work }
+// The input in the file of that name.
+pub fn open<'a, F: Files>(rt: &F, name: &'a str) -> Result<Input<'a, F::File>, Failure<'a>>
+    ensures named { IfOk result (λ input. input.name.now ≡ name.now) }
+    ensures failed { IfErr result (λ failure. (failure.what.now ≡ name.now) × (failure.records ≡ 0)) }
 {
-    for name in names {
-        let what = name.as_bytes();
-        let file = File::open(rt, *name).map_err(|error| Failure {
+    let what = name.as_bytes();
+    match File::open(rt, name) {
+        Ok(from) => Ok(Input { from, name: what }),
+        Err(error) => Err(Failure {
             what,
             records: 0,
             error,
-        })?;
-        work(file, what)?;
+        }),
     }
-    Ok(())
-}
-
-// A program that does its work with each of the files by name.
-pub fn run_on_files<
-    'a,
-    R: Files + Eprint,
-    E: From<Failure<'a>> + Display + Drop,
-    F: FnMut(R::File, &'a [u8]) -> Result<u64, E>,
->(rt: &R, names: &[&'a str], work: F)
-    requires { F.IsAlwaysCallable work }
-{
-    end(rt, work_through(rt, names, work).map(|()| 0));
 }

@@ -6,6 +6,7 @@ use mathlib.Core.Logic.{inl}
 use mathlib.Core.List.{List}
 use native.Mathlib.Omega.{arith}
 use lib.ListN.{length, length-set}
+use Rattle.std.specs.Prelude.{slice_set}
 use Rattle.table.specs.Table.{at}
 use Rattle.table.proofs.Arrays.Bounds.{within}
 use Rattle.queues.proofs.survey.Cut.{Cut, cut_out}
@@ -21,6 +22,10 @@ entries c = cut_out _ _ _ _ _ c.from-start.ensures (omega arith) (omega arith) c
 -- a live thread has a place in each array
 low : (live : List ℕ) (x : ℕ) → length live ≡ 32 → at live x ≡ 1 → x < 32
 low live x e a = omega (arith, within live x (omega arith))
+
+-- a byte put into an array, its place and its value told by other names
+placed : (before : List ℕ) {after : List ℕ} {i r x y : ℕ} → after ≡ slice_set before i x → i ≡ r → x ≡ y → after ≡ slice_set before r y
+placed before e place value = rw (← place, ← value) e
 
 pub loop-x-init : goal.loop-x-init
 loop-x-init c =
@@ -74,4 +79,4 @@ returns-clause-noted c =
     let cut = entries (goal.at.returns-clause-noted c).In-Some in
     let inv = c.loop-x.invariant in
     let e : c.loop-x.x-index + 1 ≡ c.args.n = omega (arith, cut.many) in
-    λ _. (rw e at inv.row, rw e at inv.noted, inl (omega (arith, e), rw (c.from-2.ensures, ← cut.first) at inv.held), rw e at inv.counted)
+    λ _. (rw e at inv.row, rw e at inv.noted, inl (omega (arith, e), placed c.args.self.now.graph.holders inv.held c.from-2.ensures (omega (arith, cut.first))), rw e at inv.counted)
