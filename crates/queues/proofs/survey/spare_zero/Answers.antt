@@ -13,26 +13,24 @@ use Rattle.table.proofs.Arrays.Places.{part_length, part_at}
 use Rattle.queues.proofs.survey.Sums.{rest_zero}
 use Rattle.queues.proofs.survey.spare_zero.Goals as goal
 
--- the same of a row that is cut out of the places
-row_zero : (queue : List ℕ) (r n a : ℕ) → a ≡ r → a * 32 + 32 ≤ length queue → let row = take (a * 32 + 32 - a * 32) (drop (a * 32) queue) in
-    (sum row ≡ sum (take n row)) ↔ ((i : ℕ) → n ≤ i → i < 32 → entry queue r i ≡ 0)
-row_zero queue r n a start inside = (
-  λ e i l h. rw (← start) (sym (place i h) ∙ (rest_zero row n).0 e i l (omega (arith, long))),
-  λ z. (rest_zero row n).1 (λ i l h. place i (omega (arith, long)) ∙ rw start (z i l (omega (arith, long)))),
+-- the same of a row that is cut out of the places, from a to k, and of its first m
+row_zero : (queue : List ℕ) (r n a k m : ℕ) {all few : ℕ} → a ≡ r → k ≡ a * 32 + 32 → m ≡ n → k ≤ length queue → let row = take (k - a * 32) (drop (a * 32) queue) in
+    all ≡ sum row → few ≡ sum (take m row) → (all ≡ few) ↔ ((i : ℕ) → n ≤ i → i < 32 → entry queue r i ≡ 0)
+row_zero queue r n a k m start end many inside whole part = (
+  λ e i l h. rw (← start) (sym (place i h) ∙ (rest_zero row m).0 (sym whole ∙ e ∙ part) i (omega arith) (omega (arith, long))),
+  λ z. whole ∙ (rest_zero row m).1 (λ i l h. place i (omega (arith, long)) ∙ rw start (z i (omega arith) (omega (arith, long)))) ∙ sym part,
 )
   where
     row : List ℕ
-    row = take (a * 32 + 32 - a * 32) (drop (a * 32) queue)
+    row = take (k - a * 32) (drop (a * 32) queue)
 
     long : length row ≡ 32
-    long = part_length queue (a * 32) (a * 32 + 32 - a * 32) (inr (omega arith)) ∙ omega arith
+    long = part_length queue (a * 32) (k - a * 32) (inr (omega arith)) ∙ omega arith
 
     place : (i : ℕ) → i < 32 → at row i ≡ at queue (a * 32 + i)
-    place i h = part_at queue (a * 32) (a * 32 + 32 - a * 32) (inr (omega arith)) i (omega arith)
+    place i h = part_at queue (a * 32) (k - a * 32) (inr (omega arith)) i (omega arith)
 
 pub returns : goal.returns
 returns c =
-    let zero = row_zero c.args.queue.now c.args.r c.from.result c.from-start.result c.from-start.ensures (omega arith) in (
-      λ e i l. zero.0 (sym c.total.ensures ∙ eqb-true _ _ e ∙ c.total-2.ensures) i (omega (arith, c.from.ensures)),
-      λ z. eq-eqb _ _ (c.total.ensures ∙ zero.1 (λ i l. z i (omega (arith, c.from.ensures))) ∙ sym c.total-2.ensures),
-    )
+    let zero = row_zero c.args.queue.now c.args.r c.args.n c.from-start.result _ _ c.from-start.ensures (omega arith) (omega arith) (omega arith) c.total.ensures c.total-2.ensures in
+    (λ e. zero.0 (eqb-true _ _ e), λ z. eq-eqb _ _ (zero.1 z))
