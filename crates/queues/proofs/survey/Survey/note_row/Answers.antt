@@ -5,10 +5,11 @@ use mathlib.Core.Bool.{false≢true}
 use mathlib.Core.Logic.{inl}
 use mathlib.Core.List.{List}
 use native.Mathlib.Omega.{arith}
-use lib.ListN.{length, length-set}
+use lib.ListN.{length, set, length-set}
 use Rattle.std.specs.Prelude.{slice_set}
 use Rattle.table.specs.Table.{at}
 use Rattle.table.proofs.Arrays.Bounds.{within}
+use Rattle.queues.specs.Queues.{Noted}
 use Rattle.queues.proofs.survey.Cut.{Cut, cut_out}
 use Rattle.queues.proofs.survey.Standing.{counted_none, counted_more}
 use Rattle.queues.proofs.survey.Turns.{row_start, noted_none, row_turn, still_free}
@@ -26,6 +27,10 @@ low live x e a = omega (arith, within live x (omega arith))
 -- a byte put into an array, its place and its value told by other names
 placed : (before : List ℕ) {after : List ℕ} {i r x y : ℕ} → after ≡ slice_set before i x → i ≡ r → x ≡ y → after ≡ slice_set before r y
 placed before e place value = rw (← place, ← value) e
+
+-- and so one that is noted
+noted_at : {queue before : List ℕ} (after : List ℕ) {r i x y : ℕ} → Noted queue before (set after x r) r i → y ≡ x → Noted queue before (set after y r) r i
+noted_at _ noted same = rw same noted
 
 pub loop-x-init : goal.loop-x-init
 loop-x-init c =
@@ -69,7 +74,7 @@ loop-x-preserved c =
       waits_size = simp length-set (omega arith);
       standing_size = simp length-set (omega arith);
       row = turn.1;
-      noted = turn.2;
+      noted = noted_at _ turn.2 (omega arith);
       held = inv.held;
       counted = counted_more here turn.0 (omega arith) inv.counted;
     }
