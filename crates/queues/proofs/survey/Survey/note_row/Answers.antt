@@ -8,6 +8,7 @@ use native.Mathlib.Omega.{arith}
 use lib.ListN.{length, set, length-set}
 use Rattle.std.specs.Prelude.{slice_set}
 use Rattle.table.specs.Table.{at}
+use Rattle.table.specs.Code.Places.{entry}
 use Rattle.table.proofs.Arrays.Bounds.{within}
 use Rattle.queues.specs.Queues.{Noted}
 use Rattle.queues.proofs.survey.Cut.{Cut, cut_out}
@@ -28,9 +29,13 @@ low live x e a = omega (arith, within live x (omega arith))
 placed : (before : List ℕ) {after : List ℕ} {i r x y : ℕ} → after ≡ slice_set before i x → i ≡ r → x ≡ y → after ≡ slice_set before r y
 placed before e place value = rw (← place, ← value) e
 
--- and so one that is noted
-noted_at : {queue before : List ℕ} (after : List ℕ) {r i x y : ℕ} → Noted queue before (set after x r) r i → y ≡ x → Noted queue before (set after y r) r i
-noted_at _ noted same = rw same noted
+-- and so one that is noted,
+noted_at : {queue before : List ℕ} (after : List ℕ) {r i x y q : ℕ} → Noted queue before (set after x r) r i → y ≡ x → q ≡ r → Noted queue before (set after y q) r i
+noted_at _ noted place value = rw (place, value) noted
+
+-- and one that is read
+live_at : (live : List ℕ) (x : ℕ) {y : ℕ} → at live x ≡ 1 → y ≡ x → at live y ≡ 1
+live_at _ _ live place = rw place live
 
 pub loop-x-init : goal.loop-x-init
 loop-x-init c =
@@ -57,8 +62,8 @@ returns-then-twice-clause-right c =
     let below : i < c.args.n = omega (arith, cut.many, c.loop-x-test.true) in
     absurd
     (elim c.then-twice.branch [
-      | then-twice-via-then-twice w ↦ row.not_head i (omega arith) below (here ∙ w.if-twice.true ∙ sym cut.first)
-      | then-twice-via-else-twice+then-not-is_live-2 w ↦ false≢true (sym w.if-not-is_live-2.true ∙ w.is_live-else-twice.ensures.1 (rw (← here) (row.live_entries i below)))
+      | then-twice-via-then-twice w ↦ row.not_head i (omega arith) below (omega (arith, here, w.if-twice.true, cut.first))
+      | then-twice-via-else-twice+then-not-is_live-2 w ↦ false≢true (sym w.if-not-is_live-2.true ∙ w.is_live-else-twice.ensures.1 (live_at c.args.live.now (entry c.args.queue.now c.args.r i) (row.live_entries i below) (omega (arith, here))))
       | then-twice-via-else-twice+else-not-is_live-2+then-self-at-ne-NOTHING w ↦ w.if-self-at-ne-NOTHING.true (rw (c.from-at.ensures, ← here) (still_free row inv.noted (omega arith) below))
     ])
 
@@ -68,13 +73,13 @@ loop-x-preserved c =
     let inv = c.loop-x.invariant in
     let here = cut.next c.loop-x.x-index c.loop-x-test.true ∙ sym c.from-at.ensures in
     let live = c.is_live-else-twice.ensures.0 c.if-not-is_live-2.false in
-    let there = low c.args.live.now c.from-at.result c.told-live (rw c.from-at.ensures live) in
-    let turn = row_turn here (omega arith) c.requires.0 inv.noted c.if-self-at-ne-NOTHING.false inv.row (λ e. c.if-twice.false (sym c.from-at.ensures ∙ sym here ∙ e ∙ cut.first)) (rw (here, c.from-at.ensures) live) (omega arith) in
+    let there = low c.args.live.now c.from-at.result c.told-live (live_at c.args.live.now _ live (omega arith)) in
+    let turn = row_turn here (omega arith) c.requires.0 inv.noted c.if-self-at-ne-NOTHING.false inv.row (λ e. c.if-twice.false (omega (arith, here, e, cut.first))) (live_at c.args.live.now _ live (omega (arith, here))) (omega arith) in
     record {
       waits_size = simp length-set (omega arith);
       standing_size = simp length-set (omega arith);
       row = turn.1;
-      noted = noted_at _ turn.2 (omega arith);
+      noted = noted_at _ turn.2 (omega arith) (omega arith);
       held = inv.held;
       counted = counted_more here turn.0 (omega arith) inv.counted;
     }
