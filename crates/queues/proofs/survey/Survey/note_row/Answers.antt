@@ -8,7 +8,6 @@ use native.Mathlib.Omega.{arith}
 use lib.ListN.{length, set, length-set}
 use Rattle.std.specs.Prelude.{slice_set}
 use Rattle.table.specs.Table.{at}
-use Rattle.table.specs.Code.Places.{entry}
 use Rattle.table.proofs.Arrays.Bounds.{within}
 use Rattle.queues.specs.Queues.{Noted}
 use Rattle.queues.proofs.survey.Cut.{Cut, cut_out}
@@ -33,7 +32,7 @@ placed before e place value = rw (← place, ← value) e
 noted_at : {queue before : List ℕ} (after : List ℕ) {r i x y q : ℕ} → Noted queue before (set after x r) r i → y ≡ x → q ≡ r → Noted queue before (set after y q) r i
 noted_at _ noted place value = rw (place, value) noted
 
--- and one that is read
+-- and one that was read
 live_at : (live : List ℕ) (x : ℕ) {y : ℕ} → at live x ≡ 1 → y ≡ x → at live y ≡ 1
 live_at _ _ live place = rw place live
 
@@ -63,7 +62,7 @@ returns-then-twice-clause-right c =
     absurd
     (elim c.then-twice.branch [
       | then-twice-via-then-twice w ↦ row.not_head i (omega arith) below (omega (arith, here, w.if-twice.true, cut.first))
-      | then-twice-via-else-twice+then-not-is_live-2 w ↦ false≢true (sym w.if-not-is_live-2.true ∙ w.is_live-else-twice.ensures.1 (live_at c.args.live.now (entry c.args.queue.now c.args.r i) (row.live_entries i below) (omega (arith, here))))
+      | then-twice-via-else-twice+then-not-is_live-2 w ↦ false≢true (sym w.if-not-is_live-2.true ∙ w.is_live-else-twice.ensures.1 (grind (arith, here, row.live_entries i below)))
       | then-twice-via-else-twice+else-not-is_live-2+then-self-at-ne-NOTHING w ↦ w.if-self-at-ne-NOTHING.true (rw (c.from-at.ensures, ← here) (still_free row inv.noted (omega arith) below))
     ])
 
@@ -72,9 +71,9 @@ loop-x-preserved c =
     let cut = entries (goal.at.loop-x-preserved c).In-Some in
     let inv = c.loop-x.invariant in
     let here = cut.next c.loop-x.x-index c.loop-x-test.true ∙ sym c.from-at.ensures in
-    let live = c.is_live-else-twice.ensures.0 c.if-not-is_live-2.false in
-    let there = low c.args.live.now c.from-at.result c.told-live (live_at c.args.live.now _ live (omega arith)) in
-    let turn = row_turn here (omega arith) c.requires.0 inv.noted c.if-self-at-ne-NOTHING.false inv.row (λ e. c.if-twice.false (omega (arith, here, e, cut.first))) (live_at c.args.live.now _ live (omega (arith, here))) (omega arith) in
+    let live : at c.args.live.now c.from-at.result ≡ 1 = live_at c.args.live.now _ (c.is_live-else-twice.ensures.0 c.if-not-is_live-2.false) (omega arith) in
+    let there = low c.args.live.now c.from-at.result c.told-live live in
+    let turn = row_turn here (omega arith) c.requires.0 inv.noted c.if-self-at-ne-NOTHING.false inv.row (λ e. c.if-twice.false (omega (arith, here, e, cut.first))) (rw here live) (omega arith) in
     record {
       waits_size = simp length-set (omega arith);
       standing_size = simp length-set (omega arith);
