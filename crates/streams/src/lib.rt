@@ -5,6 +5,8 @@
 pub mod failure;
 pub mod input;
 pub mod programs;
+#[cfg(test)]
+mod tests;
 
 ghost use Rattle.std.specs.Prelude.{◌≡◌, ◌↔◌, true, IsSome, IfOk, IfErr, OnOk, take};
 ghost use Rattle.std.specs.IoError.{raw_os_error, error_kind};

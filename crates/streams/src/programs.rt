@@ -1,4 +1,4 @@
-// What every program does at its end, and how those over files begin with each.
+// What every program does at its end, and how those over files go through them.
 ghost use Rattle.std.specs.Prelude.{◌*◌, ◌≡◌, IfOk, IfErr};
 
 use crate::failure::Failure;
@@ -52,4 +52,32 @@ pub fn open<'a, F: Files>(rt: &F, name: &'a str) -> Result<Input<'a, F::File>, F
             error,
         }),
     }
+}
+
+// Does the work with each of the files by its name, one after the other, up to the first that fails.
+fn work_through<
+    'a,
+    R: Files,
+    E: From<Failure<'a>> + Drop,
+    F: FnMut(R::File, &'a [u8]) -> Result<u64, E>,
+>(rt: &R, names: &[&'a str], mut work: F) -> Result<u64, E>
+    requires callable { F.IsAlwaysCallable work }
+{
+    for name in names {
+        let input = open(rt, name)?;
+        work(input.from, input.name)?;
+    }
+    Ok(0)
+}
+
+// A program that does its work with each of the files by name.
+pub fn run_on_files<
+    'a,
+    R: Files + Eprint,
+    E: From<Failure<'a>> + Display + Drop,
+    F: FnMut(R::File, &'a [u8]) -> Result<u64, E>,
+>(rt: &R, names: &[&'a str], work: F)
+    requires { F.IsAlwaysCallable work }
+{
+    end(rt, work_through(rt, names, work));
 }
