@@ -1,7 +1,7 @@
 // Keeps each of the inputs in data/ by name, one log after the other, up to the first that can't be kept whole.
 #![tactic(auto)]
 
-use keeping::writing::{Failures, keep_input};
+use keeping::writing::{Unsaid, keep_and_say};
 use std::fs::Files;
 use streams::programs::{end, open};
 
@@ -20,9 +20,9 @@ const NAMES: [&str; 12] = [
     "k1_tail.in",
 ];
 
-fn keep_all<R: Files + Print + Eprint>(rt: &R) -> Result<u64, Failures<'static>> {
+fn keep_all<R: Files + Print + Eprint>(rt: &R) -> Result<u64, Unsaid<'static>> {
     for name in NAMES {
-        keep_input(rt, &mut open(rt, name)?)?;
+        keep_and_say(rt, &mut open(rt, name)?)?;
     }
     Ok(0)
 }

@@ -1,7 +1,7 @@
 // Reads records from standard input, from the empty table on, and writes the log of those that are accepted.
 #![tactic(auto)]
 
-use keeping::writing::keep_input;
+use keeping::writing::keep_and_say;
 use streams::input::Input;
 use streams::programs::end;
 
@@ -10,5 +10,5 @@ fn main(rt: HostRuntime) {
         from: rt.stdin(),
         name: b"standard input",
     };
-    end(&rt, keep_input(&rt, &mut input));
+    end(&rt, keep_and_say(&rt, &mut input));
 }
